@@ -1,0 +1,17 @@
+mod Accepts
+mod BadLines
+mod Cuts
+mod Fronts
+mod Inclusions
+mod LegalPairs
+mod Lines
+mod Names
+mod Patterns
+mod Places
+mod Reading
+mod ReadsBlocks
+mod TokenWalks
+mod Tokens
+mod Trims
+mod Utf8Walks
+mod WritesBlocks

@@ -1,0 +1,6 @@
+use Rattle.nats_text.specs.Text.{is_name}
+use Rattle.nats_text.proofs.Places.{bad_place-false}
+use Rattle.nats_text.proofs.name.Name.read.Goals as goal
+
+pub returns-in-Some-clause-bad : goal.returns-in-Some-clause-bad
+returns-in-Some-clause-bad c = λ place is. bad_place-false is_name c.args.bytes.now c.in-Some.place c.in-Some.ensures

@@ -1,0 +1,11 @@
+pub mod Hash
+pub mod Headers
+pub mod Laws
+pub mod Matching
+pub mod Pieces
+pub mod Places
+pub mod SameHeaders
+pub mod SameMessages
+pub mod Scan
+pub mod Sizes
+pub mod Text

@@ -1,0 +1,83 @@
+-- Copies: what they are bound to, where they start and how far they have come, and what a mirror
+-- holds of its origin.
+use Rattle.std.specs.Prelude.{◌≡◌, ◌⊎◌, ℕ, ◌+◌, ◌-◌, ◌<◌, ◌≤◌, max, ◌==◌, nat_le, List, [], ◌∷◌, ◌++◌, if◌then◌else◌, Option, Some, None}
+use Rattle.nats_text.specs.declared.message.Message.{Message}
+use Rattle.nats_text.specs.declared.message.Start.{Start}
+use Rattle.nats_text.specs.declared.message.Start.TheVariants.{Seq, Time}
+use Rattle.stream_fold.specs.declared.entry.Entry.{Entry}
+use Rattle.stream_fold.specs.declared.entry.Entry.TheVariants.{Put, Del, Purge, Expire, Bind, Limits}
+use Rattle.stream_fold.specs.declared.entry.BoundTo.{BoundTo}
+use Rattle.stream_fold.specs.declared.entry.Numbered.{Numbered}
+use Rattle.stream_fold.specs.declared.state.Binding.{Binding}
+use Rattle.stream_fold.specs.Histories.{History, put, last, kept, IsHole}
+
+-- what this entry binds
+abbrev pub bound_by : Entry → List Binding
+bound_by (Put number message mark) = []
+bound_by (Del number) = []
+bound_by (Purge pattern below) = []
+bound_by (Expire now) = []
+bound_by (Bind index incarnation start) = (record { index = index; to = record { incarnation = incarnation; start = start } }) ∷ []
+bound_by (Limits config) = []
+
+-- all that was bound, oldest first
+abbrev pub bindings : List Entry → List Binding
+bindings [] = []
+bindings (e ∷ es) = bound_by e ++ bindings es
+
+-- what an index is bound to
+abbrev pub binding_at : ℕ → List Binding → Option BoundTo
+binding_at index [] = None
+binding_at index (b ∷ bs) = if b.index == index then Some b.to else binding_at index bs
+
+abbrev pub bound : ℕ → List Entry → Option BoundTo
+bound index entries = binding_at index (bindings entries)
+
+-- the number at which a copy is configured to start; 1 where a moment is configured
+abbrev pub configured : Start → ℕ
+configured (Seq n) = max 1 n
+configured (Time moment) = 1
+
+-- where a copy starts: at the start of its Bind, and before it at the configured one
+abbrev pub start_by : Option BoundTo → Start → ℕ
+start_by None start = configured start
+start_by (Some to) start = max 1 to.start
+
+-- how far a mirror has come: its last number, or the one before its start
+abbrev pub front : Start → List Entry → ℕ
+front start entries = max (last entries) (start_by (bound 0 entries) start - 1)
+
+-- the message of the origin, under its own number
+pub record IsStored (origin : History) (copy : List Entry) (seq : ℕ) : Type 0 where
+  pub message : Message
+  pub here : put seq copy ≡ Some message
+  pub there : put seq origin.entries ≡ Some message
+
+-- nothing, where the origin holds nothing
+pub record IsLeftOut (origin : History) (copy : List Entry) (seq : ℕ) : Type 0 where
+  pub here : put seq copy ≡ None
+  pub hole : IsHole origin seq
+
+-- A mirror that starts at this number has nothing below it, and from it to the mirror's last number
+-- the origin's message or nothing where the origin holds none.
+pub record MirrorHolds (origin : History) (copy : List Entry) (start : ℕ) : Type 0 where
+  pub below : (seq : ℕ) → seq < start → put seq copy ≡ None
+  pub each : (seq : ℕ) → start ≤ seq → seq ≤ last copy → IsStored origin copy seq ⊎ IsLeftOut origin copy seq
+
+-- the least kept number of a time at or after the moment, or the end
+abbrev pub number_since : ℕ → List Numbered → ℕ → ℕ
+number_since moment [] end = end
+number_since moment (row ∷ rows) end = if nat_le moment row.message.time then row.seq else number_since moment rows end
+
+-- the number is where a copy from this moment on starts, of the history as it is or once was
+pub record StartsSince (origin : History) (moment start : ℕ) : Type 0 where
+  pub front : List Entry
+  pub rest : List Entry
+  pub whole : origin.entries ≡ front ++ rest
+  pub is : start ≡ number_since moment (kept (record { config = origin.config; entries = front })) (last front + 1)
+
+-- the start of a Bind is right for the history of its origin: the configured number, at least 1, or
+-- for a moment the least kept number of its time or later, or one past the last
+abbrev pub IsRightStart : History → Start → ℕ → Type 0
+IsRightStart origin (Seq n) start = start ≡ max 1 n
+IsRightStart origin (Time moment) start = StartsSince origin moment start

@@ -1,0 +1,74 @@
+ghost use Rattle.std.specs.Prelude.{◌≡◌};
+
+use nats_text::{List, Mapping, Name, Origin, Pattern};
+use std::alloc::AllocError;
+
+/// Which message goes where a limit is reached: the oldest, or the one that is published.
+#[derive(Clone, Copy, Debug, PartialEq, Eq)]
+pub enum Discard {
+    Old,
+    New,
+}
+
+/// Whether a stream is a copy, and of what.
+#[derive(Debug, Drop, PartialEq)]
+pub enum Copies {
+    Nothing,
+    /// The messages of one stream, under their own numbers.
+    Mirror(Origin),
+    /// The messages of several streams, under new numbers.
+    Sources(List<Origin>),
+}
+
+/// The configuration of a stream. A limit of 0 is none. Ages and the duplicate window are in
+/// nanoseconds, sizes in bytes.
+#[derive(Debug, Drop, PartialEq)]
+pub struct Config {
+    pub name: Name,
+    pub subjects: List<Pattern>,
+    pub max_msgs: u64,
+    pub max_bytes: u64,
+    pub max_age: u64,
+    pub max_per_subject: u64,
+    pub max_msg_size: u64,
+    pub discard: Discard,
+    pub window: u64,
+    pub transform: Option<Mapping>,
+    pub copies: Copies,
+}
+
+impl Clone for Copies {
+    ghost is_clone = { λ a b. b ≡ a };
+
+    fn clone(&self) -> Result<Copies, AllocError> {
+        match self {
+            Copies::Nothing => Ok(Copies::Nothing),
+            Copies::Mirror(origin) => Ok(Copies::Mirror(origin.clone()?)),
+            Copies::Sources(origins) => Ok(Copies::Sources(origins.clone()?)),
+        }
+    }
+}
+
+impl Clone for Config {
+    ghost is_clone = { λ a b. b ≡ a };
+
+    fn clone(&self) -> Result<Config, AllocError> {
+        let name = self.name.clone()?;
+        let subjects = self.subjects.clone()?;
+        let transform = self.transform.clone()?;
+        let copies = self.copies.clone()?;
+        Ok(Config {
+            name,
+            subjects,
+            max_msgs: self.max_msgs,
+            max_bytes: self.max_bytes,
+            max_age: self.max_age,
+            max_per_subject: self.max_per_subject,
+            max_msg_size: self.max_msg_size,
+            discard: self.discard,
+            window: self.window,
+            transform,
+            copies,
+        })
+    }
+}

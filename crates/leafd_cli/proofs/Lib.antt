@@ -1,0 +1,14 @@
+mod Books
+mod Cuts
+mod Feeds
+mod Finding
+mod Following
+mod Fronts
+mod Growing
+mod Joined
+mod Numbers
+mod Past
+mod Publishes
+mod Settles
+mod Steps
+mod Whole

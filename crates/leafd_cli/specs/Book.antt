@@ -1,0 +1,46 @@
+-- The book of a script: the logs after each line. Which books are right, and their report.
+use Rattle.std.specs.Prelude.{◌≡◌, ℕ, ◌+◌, List, [], ◌∷◌, ◌++◌, Ok}
+use Rattle.leafd_script.specs.declared.line.Line.{Line}
+use Rattle.leafd_script.specs.declared.line.Line.TheVariants.{Node, Stream, Mirror, Publish, Settle, Show}
+use Rattle.leafd_cli.specs.Logs.{Logs, no_logs}
+use Rattle.leafd_cli.specs.Rows.{Row}
+use Rattle.leafd_cli.specs.Legal.{judged}
+use Rattle.leafd_cli.specs.Operations.{nodes_after, operated, AllGrow}
+use Rattle.leafd_cli.specs.Copies.{AreRight, AreThrough}
+use Rattle.leafd_cli.specs.Report.{printed}
+
+-- after `settle` each copy has come as far as its origin
+abbrev pub IsSettledBy : Line → Logs → Type 0
+IsSettledBy (Node node) new = Unit {0}
+IsSettledBy (Stream node name subject) new = Unit {0}
+IsSettledBy (Mirror node name origin_node origin) new = Unit {0}
+IsSettledBy (Publish node name subject text) new = Unit {0}
+IsSettledBy Settle new = AreThrough new.streams new.streams
+IsSettledBy (Show node name) new = Unit {0}
+
+-- how a line leads from the logs before it to those after it
+pub record Leads (old : Logs) (line : Line) (new : Logs) : Type 0 where
+  pub nodes : new.nodes ≡ nodes_after old line
+  -- an operation makes its entry; all other entries are of copying; no log loses one
+  pub streams : AllGrow (operated old line) new.streams
+  -- each copy has what its origin's log says
+  pub right : AreRight new.streams new.streams
+  pub settled : IsSettledBy line new
+
+-- A right book for these lines, from this line number on and from the logs before it, and its report:
+-- each line is legal in its place, leads to the next logs, and prints its part of the report.
+abbrev pub IsBook : ℕ → Logs → List Row → List ℕ → List Logs → Type 0
+IsBook number old [] out [] = out ≡ []
+IsBook number old (row ∷ rows) out (new ∷ book) =
+    (line : Line) × (judged old row ≡ Ok line) × Leads old line new × (rest : List ℕ) × (out ≡ printed number old line new ++ rest) × IsBook (number + 1) new rows rest book
+IsBook number old [] out (new ∷ book) = ⊥
+IsBook number old (row ∷ rows) out [] = ⊥
+
+-- `out` is the report of this book for these lines, which begins without nodes
+abbrev pub BookOk : List Row → List ℕ → List Logs → Type 0
+BookOk rows out book = IsBook 1 no_logs rows out book
+
+-- the logs at a book's end
+abbrev pub last_logs : Logs → List Logs → Logs
+last_logs logs [] = logs
+last_logs logs (new ∷ book) = last_logs new book

@@ -1,0 +1,12 @@
+pub mod Book
+pub mod Copies
+pub mod Keeping
+pub mod Legal
+pub mod Logs
+pub mod Operations
+pub mod Outcome
+pub mod Places
+pub mod Plain
+pub mod Report
+pub mod Rows
+pub mod Turns

@@ -1,0 +1,138 @@
+-- How a command may end, and what it has then read and written.
+use Rattle.std.specs.Prelude.{◌≡◌, ◌⊎◌, ℕ, ◌+◌, ◌<◌, ◌≤◌, List, [], ◌∷◌, ◌++◌, length, Bool, false, Option, None, Some, Err, codes, decimal}
+use Rattle.std.specs.Str.{bytes_eq}
+use Rattle.std.specs.Io.KnownBytes.{Appends, Keeps, Consumes, IsAtEnd}
+use Rattle.leaf_edges.specs.Causes.{Rose, AppendsPrefix}
+use Rattle.leafd_script.specs.declared.fault.ScriptKind.{ScriptKind}
+use Rattle.leafd_script.specs.Kinds.{kind_word}
+use Rattle.leafd_cli.specs.declared.status.Status.{Status}
+use Rattle.leafd_cli.specs.declared.status.Status.TheVariants.{Done, ScriptFault, Usage, ReadFault, WriteFault, NoMemory, ScriptTooLong}
+use Rattle.leafd_cli.specs.Logs.{Logs, no_logs}
+use Rattle.leafd_cli.specs.Rows.{Row, rows_of}
+use Rattle.leafd_cli.specs.Legal.{judged}
+use Rattle.leafd_cli.specs.Book.{BookOk, last_logs}
+
+-- the number that the process ends with
+abbrev pub status_number : Status → ℕ
+status_number Done = 0
+status_number (ScriptFault line kind) = 1
+status_number Usage = 2
+status_number ReadFault = 3
+status_number WriteFault = 4
+status_number NoMemory = 6
+status_number ScriptTooLong = 7
+
+-- the line by which a status is told, none where all is done
+abbrev pub status_line : Status → List ℕ
+status_line Done = []
+status_line (ScriptFault line kind) = codes "leafd: line " ++ (decimal line ++ (codes ": " ++ (kind_word kind ++ codes "\n")))
+status_line Usage = codes "leafd: usage: leafd drill | make NUMBER LINES | trial NUMBER LINES | check CONF | inspect DIR | map SRC DEST SUBJECT | serve CONF\n"
+status_line ReadFault = codes "leafd: read fault\n"
+status_line WriteFault = codes "leafd: write fault\n"
+status_line NoMemory = codes "leafd: out of memory\n"
+status_line ScriptTooLong = codes "leafd: script too long\n"
+
+-- the words that are a command: `drill` alone yet
+abbrev pub are_command : List (List ℕ) → Bool
+are_command [] = false
+are_command (word ∷ []) = bytes_eq word (codes "drill")
+are_command (word ∷ next ∷ words) = false
+
+-- a source gave this text and then its end
+pub record IsRead (old new : Option (List ℕ)) (text : List ℕ) : Type 0 where
+  pub consumed : Consumes old new text
+  pub end : IsAtEnd new
+  pub short : length text ≤ 16777216
+
+-- a source that tells what it has left has more than the most bytes of a script
+abbrev pub IsTooLong : Option (List ℕ) → Type 0
+IsTooLong None = Unit {0}
+IsTooLong (Some left) = 16777216 < length left
+
+-- the whole report of a book for all lines of the input, read to its end
+pub record Reports (left rest before after : Option (List ℕ)) : Type 0 where
+  pub text : List ℕ
+  pub input : IsRead left rest text
+  pub report : List ℕ
+  pub book : List Logs
+  pub right : BookOk (rows_of text) report book
+  pub written : Appends before after report
+
+-- the report of a book for the lines before the first that isn't legal in its place
+pub record ReportsBefore (line : ℕ) (kind : ScriptKind) (left rest before after : Option (List ℕ)) : Type 0 where
+  pub text : List ℕ
+  pub input : IsRead left rest text
+  pub done : List Row
+  pub row : Row
+  pub more : List Row
+  pub rows : rows_of text ≡ done ++ row ∷ more
+  pub number : line ≡ length done + 1
+  pub report : List ℕ
+  pub book : List Logs
+  pub right : BookOk done report book
+  pub refused : judged (last_logs no_logs book) row ≡ Err kind
+  pub written : Appends before after report
+
+-- a prefix of the report of a book for a prefix of the lines
+pub record ReportsInPart (left rest before after : Option (List ℕ)) : Type 0 where
+  pub text : List ℕ
+  pub input : IsRead left rest text
+  pub done : List Row
+  pub more : List Row
+  pub rows : rows_of text ≡ done ++ more
+  pub report : List ℕ
+  pub book : List Logs
+  pub right : BookOk done report book
+  pub written : AppendsPrefix before after report
+
+-- what a drill has read and written, by its status
+abbrev pub Drills : Option (List ℕ) → Option (List ℕ) → Option (List ℕ) → Option (List ℕ) → Status → Type 0
+Drills left rest before after Done = Reports left rest before after
+Drills left rest before after (ScriptFault line kind) = ReportsBefore line kind left rest before after
+Drills left rest before after Usage = Keeps left rest × Keeps before after
+Drills left rest before after ReadFault = Keeps before after
+Drills left rest before after WriteFault = ReportsInPart left rest before after
+Drills left rest before after NoMemory = Keeps before after ⊎ ReportsInPart left rest before after
+Drills left rest before after ScriptTooLong = IsTooLong left × Keeps before after
+
+-- what was told of a status: nothing where all is done, else a prefix of its line
+abbrev pub Tells : Option (List ℕ) → Option (List ℕ) → Status → Type 0
+Tells before after Done = Keeps before after
+Tells before after (ScriptFault line kind) = AppendsPrefix before after (status_line (ScriptFault line kind))
+Tells before after Usage = AppendsPrefix before after (status_line Usage)
+Tells before after ReadFault = AppendsPrefix before after (status_line ReadFault)
+Tells before after WriteFault = AppendsPrefix before after (status_line WriteFault)
+Tells before after NoMemory = AppendsPrefix before after (status_line NoMemory)
+Tells before after ScriptTooLong = AppendsPrefix before after (status_line ScriptTooLong)
+
+-- ReadFault comes only where the count of faults of the input rose, and at every other status it didn't
+abbrev pub CountsRead : ℕ → ℕ → Status → Type 0
+CountsRead before now ReadFault = Rose before now
+CountsRead before now Done = now ≡ before
+CountsRead before now (ScriptFault line kind) = now ≡ before
+CountsRead before now Usage = now ≡ before
+CountsRead before now WriteFault = now ≡ before
+CountsRead before now NoMemory = now ≡ before
+CountsRead before now ScriptTooLong = now ≡ before
+
+-- WriteFault comes only where the count of faults of the output rose, and at every other status it didn't
+abbrev pub CountsWrite : ℕ → ℕ → Status → Type 0
+CountsWrite before now WriteFault = Rose before now
+CountsWrite before now Done = now ≡ before
+CountsWrite before now (ScriptFault line kind) = now ≡ before
+CountsWrite before now Usage = now ≡ before
+CountsWrite before now ReadFault = now ≡ before
+CountsWrite before now NoMemory = now ≡ before
+CountsWrite before now ScriptTooLong = now ≡ before
+
+-- how the reading of a source ended: at its end, or past the most bytes of a script
+abbrev pub Gathers : Option (List ℕ) → Option (List ℕ) → List ℕ → Type 0
+Gathers old new text = Consumes old new text × (length text ≤ 16777216 → IsAtEnd new)
+
+-- one read: the bytes join the text, and none come at the end alone
+pub record ReadsPiece (old new : Option (List ℕ)) (before after : List ℕ) (count : ℕ) : Type 0 where
+  pub bytes : List ℕ
+  pub joined : after ≡ before ++ bytes
+  pub count_is : length bytes ≡ count
+  pub consumed : Consumes old new bytes
+  pub end : count ≡ 0 → IsAtEnd new

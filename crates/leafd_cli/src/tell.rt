@@ -1,0 +1,53 @@
+ghost use Rattle.std.specs.Prelude.{◌++◌, codes, decimal};
+ghost use Rattle.std.specs.List.{flat_map};
+ghost use Rattle.leaf_edges.specs.Causes.{Pumps};
+ghost use Rattle.leafd_script.specs.Kinds.{kind_word};
+ghost use Rattle.leafd_cli.specs.Outcome.{Tells};
+
+use crate::Status;
+use itoa::Buffer;
+use leaf_edges::{EdgeError, Sink, pump_all};
+use leafd_script::ScriptKind;
+
+const USAGE: &[u8] =
+    b"leafd: usage: leafd drill | make NUMBER LINES | trial NUMBER LINES | check CONF | inspect DIR | map SRC DEST SUBJECT | serve CONF\n";
+
+/// Writes the line of a status, without taking memory. A fault of the sink is passed over.
+pub fn tell<E: Sink>(err: &mut E, status: Status)
+    ensures { Tells (E.taken err.old) (E.taken err.new) status }
+{
+    let _ = match status {
+        Status::Done => Ok(()),
+        Status::ScriptFault { line, kind } => tell_line(err, line, kind),
+        Status::Usage => pump_all(err, USAGE),
+        Status::ReadFault => pump_all(err, b"leafd: read fault\n"),
+        Status::WriteFault => pump_all(err, b"leafd: write fault\n"),
+        Status::NoMemory => pump_all(err, b"leafd: out of memory\n"),
+        Status::ScriptTooLong => pump_all(err, b"leafd: script too long\n"),
+    };
+}
+
+/// Writes which line of a script isn't legal, and why.
+fn tell_line<E: Sink>(err: &mut E, line: u64, kind: ScriptKind) -> Result<(), EdgeError>
+    ensures { Pumps (E.taken err.old) (E.taken err.new) result (codes "leafd: line " ++ (decimal line ++ (codes ": " ++ (kind_word kind ++ codes "\n")))) }
+{
+    let mut digits = Buffer::new();
+    let number = digits.format(line).as_bytes();
+    let word = kind.word().as_bytes();
+    pump_pieces(err, &[b"leafd: line ", number, b": ", word, b"\n"])
+}
+
+fn pump_pieces<E: Sink>(err: &mut E, pieces: &[&[u8]]) -> Result<(), EdgeError>
+    ensures { Pumps (E.taken err.old) (E.taken err.new) result (flat_map (λ piece. piece.now) pieces.now) }
+{
+    for piece in pieces {
+        match pump_all(err, piece) {
+            Ok(()) => {}
+            Err(error) => return Err(error),
+        }
+    }
+    Ok(())
+}
+
+#[cfg(test)]
+mod tests;

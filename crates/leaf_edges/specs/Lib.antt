@@ -1,2 +1,5 @@
 pub mod Causes
+pub mod Clocks
+pub mod Disks
+pub mod Files
 pub mod Memory

@@ -1,3 +1,7 @@
+ghost use Rattle.std.specs.Prelude.{◌≡◌};
+ghost use Rattle.leaf_edges.specs.declared.fault.EdgeError.TheVariants.{NoMemory};
+
+use std::alloc::AllocError;
 use thiserror::Error;
 
 /// Why a call to the outside gave no answer.
@@ -9,4 +13,12 @@ pub enum EdgeError {
     /// There was no memory. Nothing changed.
     #[error("out of memory")]
     NoMemory,
+}
+
+impl From<AllocError> for EdgeError {
+    ghost from_gives = { λ _ error. error ≡ NoMemory };
+
+    fn from(_: AllocError) -> EdgeError {
+        EdgeError::NoMemory
+    }
 }

@@ -1,0 +1,225 @@
+ghost use Rattle.std.specs.Prelude.{◌≡◌, ◌≤◌, ◌++◌, [], ℕ, List, length, false, None, OnErr, OnOk, IsErrOf};
+ghost use Rattle.leaf_edges.specs.Causes.{Causes};
+ghost use Rattle.leaf_edges.specs.Files.{AddsText, CountsDisk, max_text};
+
+use crate::{EdgeError, FileDisk, Files};
+use std::alloc::AllocError;
+use std::fs::{File, OpenOptions};
+use std::io::{self, Read};
+use std::marker::Model;
+use std::path::{Component, Path, PathBuf};
+
+/// The most bytes that a text may have.
+const MAX_TEXT: usize = 16_777_216;
+
+/// The files of the system. A name is the text of a path, which begins in the folder unless it is
+/// absolute. A file below the folder is opened for reading and writing, and is made where that is
+/// asked; a file elsewhere, as one whose path has a `..`, is only read. It tells nothing of their
+/// content. A link that leads elsewhere is followed.
+#[derive(Drop)]
+pub struct DirFiles {
+    rt: HostRuntime,
+    folder: String,
+    faults: u64,
+    disk_faults: u64,
+}
+
+/// Contracts see its two counts.
+impl Model for DirFiles {
+    ghost use Rattle.leaf_edges.specs.Files.{FileCounts};
+
+    ghost Value = { FileCounts };
+
+    ghost view = { λ f. record { faults = f.faults; disk_faults = f.disk_faults } };
+}
+
+impl DirFiles {
+    /// The files in this folder, which is there already.
+    pub fn new(rt: HostRuntime, folder: String) -> DirFiles
+        ensures { result ≡ record { faults = 0; disk_faults = 0 } }
+    {
+        DirFiles {
+            rt,
+            folder,
+            faults: 0,
+            disk_faults: 0,
+        }
+    }
+
+    /// How many of its calls failed.
+    pub fn fault_count(&self) -> u64
+        ensures { result ≡ self.now.faults }
+    {
+        self.faults
+    }
+
+    /// How many disks came back with a fault.
+    pub fn disk_fault_count(&self) -> u64
+        ensures { result ≡ self.now.disk_faults }
+    {
+        self.disk_faults
+    }
+}
+
+/// The path of a name. A name that is no text has none.
+fn path_of(rt: &HostRuntime, folder: &str, name: &[u8]) -> Result<PathBuf, EdgeError> {
+    match str::from_utf8(name) {
+        Ok(name) => Ok(Path::new(folder).join(rt.alloc(), name)?),
+        Err(_) => Err(EdgeError::Failed),
+    }
+}
+
+/// Whether a path leads to a file below the folder, as far as its text tells.
+fn is_below(folder: &str, path: Path<'_>) -> bool {
+    let folder = Path::new(folder);
+    path.is_absolute() == folder.is_absolute()
+        && path.starts_with(folder)
+        && !path.components().any(|part| part == Component::ParentDir)
+}
+
+/// No answer, for want of memory or by a fault.
+fn error_of(error: io::Error) -> EdgeError {
+    if error.kind() == io::ErrorKind::OutOfMemory {
+        EdgeError::NoMemory
+    } else {
+        EdgeError::Failed
+    }
+}
+
+/// Opens a file that is there.
+fn open(rt: &HostRuntime, path: Path<'_>, write: bool) -> Result<Option<File>, EdgeError> {
+    match OpenOptions::new().read(true).write(write).open(rt, path) {
+        Ok(file) => Ok(Some(file)),
+        Err(error) if error.kind() == io::ErrorKind::NotFound => Ok(None),
+        Err(error) => Err(error_of(error)),
+    }
+}
+
+/// Makes a file, and syncs the folder that got its name.
+fn create(rt: &HostRuntime, path: Path<'_>) -> io::Result<File> {
+    let file = OpenOptions::new()
+        .read(true)
+        .write(true)
+        .create_new(true)
+        .open(rt, path)?;
+    let folder = match path.parent() {
+        Some(folder) if !folder.as_os_str().is_empty() => folder,
+        _ => Path::new("."),
+    };
+    File::open(rt, folder)?.sync_all()?;
+    Ok(file)
+}
+
+/// Opens the file of a disk, or makes it.
+fn open_disk(
+    rt: &HostRuntime,
+    folder: &str,
+    name: &[u8],
+    make: bool,
+) -> Result<Option<File>, EdgeError> {
+    let path = path_of(rt, folder, name)?;
+    let below = is_below(folder, path.as_path());
+    match open(rt, path.as_path(), below) {
+        Ok(Some(file)) => Ok(Some(file)),
+        Ok(None) if make && below => match create(rt, path.as_path()) {
+            Ok(file) => Ok(Some(file)),
+            Err(error) => Err(error_of(error)),
+        },
+        Ok(None) if make => Err(EdgeError::Failed),
+        Ok(None) => Ok(None),
+        Err(error) => Err(error),
+    }
+}
+
+/// Adds the bytes of a file, of which there are at most so many as a text may have.
+fn add_bytes(file: File, buf: &mut Vec<u8>) -> Result<(), EdgeError>
+    ensures ok { OnOk result ((bytes : List ℕ) × (buf.new.items ≡ buf.old.items ++ bytes) × (length bytes ≤ max_text)) }
+    ensures err { OnErr result (buf.new.items ≡ buf.old.items) }
+{
+    let start = buf.len();
+    match file.take(MAX_TEXT as u64 + 1).read_to_end(buf) {
+        Ok(count) if count <= MAX_TEXT => Ok(()),
+        Ok(_) => {
+            buf.truncate(start);
+            Err(EdgeError::Failed)
+        }
+        Err(error) => {
+            buf.truncate(start);
+            Err(error_of(error))
+        }
+    }
+}
+
+/// Reads a text that is there.
+fn read_text(
+    rt: &HostRuntime,
+    folder: &str,
+    name: &[u8],
+    buf: &mut Vec<u8>,
+) -> Result<bool, EdgeError>
+    ensures { AddsText ⊥ None buf.old.items buf.new.items result }
+{
+    let path = match path_of(rt, folder, name) {
+        Ok(path) => path,
+        Err(error) => return Err(error),
+    };
+    match open(rt, path.as_path(), false) {
+        Ok(Some(file)) => match add_bytes(file, buf) {
+            Ok(()) => Ok(true),
+            Err(error) => Err(error),
+        },
+        Ok(None) => Ok(false),
+        Err(error) => Err(error),
+    }
+}
+
+/// Counts a fault.
+fn note<T: Drop>(outcome: Result<T, EdgeError>, faults: &mut u64) -> Result<T, EdgeError>
+    ensures same { result ≡ outcome }
+    ensures cause { Causes faults.old faults.new result }
+{
+    if let Err(EdgeError::Failed) = &outcome {
+        *faults = faults.saturating_add(1);
+    }
+    outcome
+}
+
+impl Files for DirFiles {
+    type D = FileDisk;
+
+    ghost tells = { ⊥ };
+
+    ghost place = { λ _ _. None };
+
+    ghost is_out = { λ _ _. false };
+
+    ghost handed = { λ _. [] };
+
+    ghost text_of = { λ _ _. None };
+
+    ghost faults = { λ f. f.faults };
+
+    ghost disk_faults = { λ f. f.disk_faults };
+
+    ghost disks_tell = { λ told. absurd told };
+
+    fn disk(&mut self, name: &[u8], make: bool) -> Result<Option<FileDisk>, EdgeError> {
+        let opened = open_disk(&self.rt, self.folder.as_str(), name, make);
+        match note(opened, &mut self.faults) {
+            Ok(Some(file)) => Ok(Some(FileDisk::new(file))),
+            Ok(None) => Ok(None),
+            Err(error) => Err(error),
+        }
+    }
+
+    fn text(&mut self, name: &[u8], buf: &mut Vec<u8>) -> Result<bool, EdgeError> {
+        let read = read_text(&self.rt, self.folder.as_str(), name, buf);
+        note(read, &mut self.faults)
+    }
+
+    fn back(&mut self, _name: &[u8], disk: FileDisk) {
+        if disk.fault_count() != 0 {
+            self.disk_faults = self.disk_faults.saturating_add(1);
+        }
+    }
+}

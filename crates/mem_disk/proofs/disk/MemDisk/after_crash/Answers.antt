@@ -1,0 +1,11 @@
+use Rattle.std.proofs.Common.{ap, sym, subst, ◌∙◌}
+use Rattle.mem_disk.specs.Contents.{picked}
+use Rattle.mem_disk.specs.MemDisks.{fresh_past, past_seen, PastImages, crash_content, crash_image}
+use Rattle.mem_disk.proofs.DiskCalls.{crash_is_image}
+use Rattle.mem_disk.proofs.disk.MemDisk.after_crash.Goals as goal
+
+-- the bytes that are put in place are the image that the fate picks
+pub returns-clause-image : goal.returns-clause-image
+returns-clause-image c =
+    let put = ap past_seen (c.crash.ensures ∙ ap (λ fate. fresh_past (picked fate (crash_content c.self.inside.history))) c.unwrap_or.ensures) ∙ ap crash_image c.self.view_is in
+    subst (PastImages c.args.self.now.past) (sym put) (crash_is_image c.args.self.now)

@@ -1,0 +1,11 @@
+pub mod Contents
+pub mod DiskLaws
+pub mod Entries
+pub mod Histories
+pub mod MemDiskFields
+pub mod MemDisks
+pub mod ReachLemmas
+pub mod StepLemmas
+pub mod StoreFields
+pub mod Stores
+pub mod Times

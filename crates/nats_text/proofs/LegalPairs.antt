@@ -24,3 +24,8 @@ block_with status name value pairs rest e l h =
     let parts = and_parts _ _ h in
     let others = list_all-filter is_legal_pair (λ pair. not (is_named name pair)) pairs parts.1 in
     and_from _ _ parts.0 (ap (list_all is_legal_pair) e ∙ (list_all-append is_legal_pair (other_pairs name pairs) _ ∙ and_from _ _ others (and_from (legal name value) true l refl)))
+
+pub block_push : (status : Option (List ℕ)) (name value : List ℕ) (pairs rest : List Pair) → rest ≡ pairs ++ record { name = name; value = value } ∷ [] → legal name value ≡ true → is_header_block (record { status = status; pairs = pairs }) ≡ true → is_header_block (record { status = status; pairs = rest }) ≡ true
+block_push status name value pairs rest e l h =
+    let parts = and_parts _ _ h in
+    and_from _ _ parts.0 (ap (list_all is_legal_pair) e ∙ (list_all-append is_legal_pair pairs _ ∙ and_from _ _ parts.1 (and_from (legal name value) true l refl)))

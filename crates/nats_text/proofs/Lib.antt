@@ -1,6 +1,7 @@
 mod Accepts
 mod BadLines
 mod Cuts
+mod Digits
 mod Fronts
 mod Inclusions
 mod LegalPairs

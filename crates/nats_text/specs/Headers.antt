@@ -98,6 +98,10 @@ abbrev pub with_value : List ℕ → List ℕ → HeaderBlock → HeaderBlock
 with_value name value block =
     record block { pairs = other_pairs name block.pairs ++ record { name = name; value = value } ∷ [] }
 
+-- one pair more, behind the others
+abbrev pub with_pair : List ℕ → List ℕ → HeaderBlock → HeaderBlock
+with_pair name value block = record block { pairs = block.pairs ++ record { name = name; value = value } ∷ [] }
+
 -- ---- the bytes of a block
 
 abbrev pub crlf : List ℕ

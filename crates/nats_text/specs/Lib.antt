@@ -2,6 +2,7 @@ pub mod Hash
 pub mod Headers
 pub mod Laws
 pub mod Matching
+pub mod Numbers
 pub mod Pieces
 pub mod Places
 pub mod SameHeaders

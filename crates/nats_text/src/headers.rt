@@ -1,7 +1,7 @@
 ghost use Rattle.std.specs.Prelude.{◌≡◌, ◌<◌, ◌≤◌, ◌+◌, ◌-◌, ◌^◌, length, min, ℕ, [], ◌++◌, IsTrue, IfOk, OnOk, OnErr, vec_len, vec_capacity};
 ghost use Rattle.std.specs.Option.{option_copied};
 ghost use Rattle.nats_text.specs.Pieces.{pieces};
-ghost use Rattle.nats_text.specs.Headers.{HeaderBlock, IsBlock, IsFirstBadLine, is_header_block, no_headers, has_none, legal, written, first_value, has_name, with_value, without, other_pairs, is_named, Reads, read_block, read_pairs};
+ghost use Rattle.nats_text.specs.Headers.{HeaderBlock, IsBlock, IsFirstBadLine, is_header_block, no_headers, has_none, legal, written, first_value, has_name, with_pair, with_value, without, other_pairs, is_named, Reads, read_block, read_pairs};
 
 use crate::header_lines::{entry_of_line, is_header_name, is_header_value, status_of_line};
 use crate::header_writer::{append_lines, lines_len};
@@ -169,6 +169,18 @@ impl Headers {
         self.pairs.reserve(1)?;
         keep_others(&mut self.pairs, name);
         self.pairs.push_reserved(pair);
+        Ok(())
+    }
+
+    /// Adds a pair at the end, which has to be [`legal`](Headers::legal), and keeps those of the same
+    /// name. Without memory the headers stay as they were.
+    pub fn add(&mut self, name: &[u8], value: &[u8]) -> Result<(), NoMemory>
+        requires { IsTrue (legal name.now value.now) }
+        ensures ok { OnOk result (self.new ≡ with_pair name.now value.now self.old) }
+        ensures err { OnErr result (self.new ≡ self.old) }
+    {
+        let last = copied_pair(*self.pairs.allocator(), name, value)?;
+        self.pairs.push(last)?;
         Ok(())
     }
 }

@@ -135,3 +135,23 @@ fn reads_many_pairs_quickly(rt: HostRuntime) -> Result<(), Fail> {
     assert_eq!(rt; written, block);
     Ok(())
 }
+
+// Pairs of one name stand behind one another.
+#[test]
+fn adds_behind_the_others(rt: HostRuntime) -> Result<(), Fail> {
+    let mut headers = Headers::empty(rt.alloc());
+    assert!(rt; Headers::legal(b"A", b"1"));
+    headers.add(b"A", b"1")?;
+    assert!(rt; Headers::legal(b"B", b"2"));
+    headers.add(b"B", b"2")?;
+    assert!(rt; Headers::legal(b"A", b"3"));
+    headers.add(b"A", b"3")?;
+    let mut written = Vec::new(rt.alloc());
+    headers.write(&mut written)?;
+    assert_eq!(rt;
+        written.as_slice(),
+        b"NATS/1.0\r\nA: 1\r\nB: 2\r\nA: 3\r\n\r\n".as_slice()
+    );
+    assert_eq!(rt; headers.get(b"A").ok_or("no A")?, b"1".as_slice());
+    Ok(())
+}

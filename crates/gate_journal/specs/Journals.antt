@@ -1,0 +1,110 @@
+-- What the calls of a journal answer, and what they do to a disk.
+use Rattle.std.specs.Prelude.{◌≡◌, ◌⊎◌, ℕ, ◌+◌, ◌≤◌, ◌<◌, Bool, true, false, cond, List, [], ◌∷◌, ◌++◌, length, take, Option, Some, Result, Ok, Err}
+use Rattle.std.specs.Int.{w32, to_le_bytes}
+use Rattle.leaf_edges.specs.Causes.{Rose}
+use Rattle.leaf_edges.specs.Disks.{Op, wrote, synced}
+use Rattle.gate_journal.specs.Areas.{head, max_area, end_of, IsArea, IsBroken}
+use Rattle.gate_journal.specs.declared.fault.LoadFault.{LoadFault}
+use Rattle.gate_journal.specs.declared.fault.LoadFault.TheVariants.{ReadFault, SyncFault, BadJournal, TooLong, NoMemory}
+use Rattle.gate_journal.specs.declared.fault.AppendFault.{AppendFault}
+use Rattle.gate_journal.specs.declared.fault.AppendFault.TheVariants.{DiskFault, NoMemory as OutOfMemory}
+
+-- a journal: whether its area counts, its generation, and the place of the closed gate behind its bodies
+pub record JournalState : Type 0 where
+  pub counts : Bool
+  pub generation : ℕ
+  pub end : ℕ
+
+-- in every image of the disk the journal's area counts, with its generation, these bodies and the closed gate at its end
+pub record Stands {D : Type 0} (images : D → List ℕ → Type 0) (disk : D) (journal : JournalState) (bodies : List (List ℕ)) : Type 0 where
+  pub counted : journal.counts ≡ true
+  pub place : journal.end ≡ end_of bodies
+  pub each : (c : List ℕ) → images disk c → IsArea true journal.generation bodies c
+
+-- the area with these bodies, or with one more at the end
+abbrev pub IsBeforeOrAfter : ℕ → List (List ℕ) → List ℕ → List ℕ → Type 0
+IsBeforeOrAfter generation bodies body c = IsArea true generation bodies c ⊎ IsArea true generation (bodies ++ body ∷ []) c
+
+-- the journal with one more body
+abbrev pub grown : JournalState → List ℕ → JournalState
+grown journal body = record journal { end = journal.end + 5 + length body }
+
+-- the bytes of a record behind its gate, and the closed gate after it
+abbrev pub staged : List ℕ → List ℕ
+staged body = to_le_bytes w32 (length body) ++ body ++ 0 ∷ []
+
+-- the calls of an append at a closed gate: what stands behind the gate, a sync, the gate, a sync
+abbrev pub append_calls : ℕ → List ℕ → List Op
+append_calls gate body = wrote (gate + 1) (staged body) ∷ synced ∷ wrote gate (1 ∷ []) ∷ synced ∷ []
+
+-- the 18 bytes of a new area
+abbrev pub new_area : Bool → List ℕ
+new_area true = head 1 1 ++ 0 ∷ []
+new_area false = head 0 0 ++ 0 ∷ []
+
+-- the journal of a new area that counts
+abbrev pub new_journal : JournalState
+new_journal = record { counts = true; generation = 1; end = 17 }
+
+-- the calls before one of these were added, and that one is the last that failed
+pub record FailsWithin (old new : List Op) (failed : Option Op) (calls : List Op) : Type 0 where
+  pub before : List Op
+  pub call : Op
+  pub after : List Op
+  pub are : calls ≡ before ++ call ∷ after
+  pub added : new ≡ old ++ before
+  pub last : failed ≡ Some call
+
+-- An Ok adds these calls to those that the disk has done, a fault those before the call that failed, and want of memory none or the first two.
+abbrev pub Does : {D T : Type 0} → (D → List Op) → (D → Option Op) → D → D → List Op → Result T AppendFault → Type 0
+Does done failed old new calls (Ok value) = (done new ≡ done old ++ calls) × (failed new ≡ failed old)
+Does done failed old new calls (Err DiskFault) = FailsWithin (done old) (done new) (failed new) calls
+Does done failed old new calls (Err OutOfMemory) = ((done new ≡ done old) ⊎ (done new ≡ done old ++ take 2 calls)) × (failed new ≡ failed old)
+
+-- a load adds a sync where something was unsynced, and nothing else
+abbrev pub Syncs : {D T : Type 0} → (D → List Op) → (D → Option Op) → (D → Bool) → D → D → Result T LoadFault → Type 0
+Syncs done failed unsynced old new result = SyncsOr (SyncsOnce done failed unsynced old new) ((done new ≡ done old) × (failed new ≡ Some synced)) result
+  where
+    SyncsOnce : {D : Type 0} → (D → List Op) → (D → Option Op) → (D → Bool) → D → D → Type 0
+    SyncsOnce done failed unsynced old new = (done new ≡ cond (unsynced old) (done old ++ synced ∷ []) (done old)) × (failed new ≡ failed old)
+
+    SyncsOr : {T : Type 0} → Type 0 → Type 0 → Result T LoadFault → Type 0
+    SyncsOr once fails (Ok value) = once
+    SyncsOr once fails (Err ReadFault) = once
+    SyncsOr once fails (Err SyncFault) = fails
+    SyncsOr once fails (Err (BadJournal place)) = once
+    SyncsOr once fails (Err (TooLong len)) = once
+    SyncsOr once fails (Err NoMemory) = once
+
+-- what a load answers of these bytes: an area's journal and bodies, where it breaks, or the length where there are too many
+abbrev pub Reads : List ℕ → Result (JournalState × List (List ℕ)) LoadFault → Type 0
+Reads c (Ok loaded) = (length c ≤ max_area) × IsArea loaded.0.counts loaded.0.generation loaded.1 c × (loaded.0.end ≡ end_of loaded.1)
+Reads c (Err ReadFault) = Unit {0}
+Reads c (Err SyncFault) = Unit {0}
+Reads c (Err (BadJournal place)) = (length c ≤ max_area) × IsBroken place c
+Reads c (Err (TooLong len)) = (max_area < length c) × (len ≡ length c)
+Reads c (Err NoMemory) = Unit {0}
+
+-- a fault of a load comes only where the disk's count rose, and every other answer leaves the count
+abbrev pub LoadCauses : {T : Type 0} → ℕ → ℕ → Result T LoadFault → Type 0
+LoadCauses before now (Ok value) = now ≡ before
+LoadCauses before now (Err ReadFault) = Rose before now
+LoadCauses before now (Err SyncFault) = Rose before now
+LoadCauses before now (Err (BadJournal place)) = now ≡ before
+LoadCauses before now (Err (TooLong len)) = now ≡ before
+LoadCauses before now (Err NoMemory) = now ≡ before
+
+-- the same where nothing is synced
+abbrev pub LookCauses : {T : Type 0} → ℕ → ℕ → Result T LoadFault → Type 0
+LookCauses before now (Ok value) = now ≡ before
+LookCauses before now (Err ReadFault) = Rose before now
+LookCauses before now (Err SyncFault) = ⊥
+LookCauses before now (Err (BadJournal place)) = now ≡ before
+LookCauses before now (Err (TooLong len)) = now ≡ before
+LookCauses before now (Err NoMemory) = now ≡ before
+
+-- the same of a write
+abbrev pub WriteFaults : {T : Type 0} → ℕ → ℕ → Result T AppendFault → Type 0
+WriteFaults before now (Ok value) = now ≡ before
+WriteFaults before now (Err DiskFault) = Rose before now
+WriteFaults before now (Err OutOfMemory) = now ≡ before

@@ -1,0 +1,15 @@
+-- What holds of areas, whatever the code does.
+use Rattle.std.specs.Prelude.{◌≡◌, ℕ, Bool, List}
+use Rattle.gate_journal.specs.Areas.{IsArea, IsBroken}
+
+-- bytes are an area in one way only
+abbrev pub AreasAreRead : Type 0
+AreasAreRead = (c : List ℕ) (k k' : Bool) (g g' : ℕ) (bs bs' : List (List ℕ)) → IsArea k g bs c → IsArea k' g' bs' c → (k ≡ k') × (g ≡ g') × (bs ≡ bs')
+
+-- bytes break at one place only
+abbrev pub BreaksAreRead : Type 0
+BreaksAreRead = (c : List ℕ) (p p' : ℕ) → IsBroken p c → IsBroken p' c → p ≡ p'
+
+-- no area breaks
+abbrev pub AreasAreWhole : Type 0
+AreasAreWhole = (c : List ℕ) (k : Bool) (g p : ℕ) (bs : List (List ℕ)) → IsArea k g bs c → IsBroken p c → ⊥

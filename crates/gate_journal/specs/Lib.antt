@@ -1,0 +1,4 @@
+pub mod Areas
+pub mod Journals
+pub mod Laws
+pub mod Walks

@@ -1,0 +1,10 @@
+//! Laws of the definitions that the contracts of this crate cite. The function does nothing: what it
+//! ensures holds of all bytes.
+ghost use Rattle.gate_journal.specs.Laws.{AreasAreRead, BreaksAreRead, AreasAreWhole};
+
+/// Bytes are an area, with these bodies, or break, at this place, and never both.
+pub fn areas()
+    ensures read { AreasAreRead }
+    ensures broken { BreaksAreRead }
+    ensures whole { AreasAreWhole }
+{}

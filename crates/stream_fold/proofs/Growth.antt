@@ -1,5 +1,5 @@
 -- What stays as a history grows.
-use Rattle.std.proofs.Common.{◌≡◌, ℕ, ◌≤◌, max, List, [], ◌∷◌, ◌++◌, Option, Some, None, refl, sym, ◌∙◌, subst, arith, ◌⊎◌, inl, inr}
+use Rattle.std.proofs.Common.{◌≡◌, ℕ, ◌≤◌, max, List, [], ◌∷◌, ◌++◌, Option, Some, None, refl, sym, ap, ◌∙◌, subst, arith, ◌⊎◌, inl, inr}
 use Rattle.std.proofs.lemmas.Bool.{ne_eqb}
 use Rattle.std.proofs.lemmas.Bool.Decides.{nat_tests}
 use Rattle.nats_text.specs.declared.message.Message.{Message}
@@ -74,3 +74,13 @@ put-back es xs s m rise le e =
       | inl here ↦ here
       | inr there ↦ (let n = put-none_below xs (max 0 (last es)) s above (omega arith) in absurd (let q : Some m ≡ None = sym there.1 ∙ n in cc))
     ]
+
+either-None : {A : Type 0} (a : Option A) → either a None ≡ a
+either-None (Some x) = refl
+either-None None = refl
+
+-- nothing later changes what was put under a number that was reached
+pub put-same : (es xs : List Entry) (s : ℕ) → NumbersRise (es ++ xs) → s ≤ last es → put s (es ++ xs) ≡ put s es
+put-same es xs s rise le =
+    let none : put s xs ≡ None = put-none_below xs (max 0 (last es)) s (RiseFrom-append es xs 0 rise).1 (omega arith) in
+    put-append es xs s ∙ (ap (either (put s es)) none ∙ either-None (put s es))

@@ -1,15 +1,19 @@
 -- Copies: what they are bound to, where they start and how far they have come, and what a mirror
 -- holds of its origin.
-use Rattle.std.specs.Prelude.{◌≡◌, ◌⊎◌, ℕ, ◌+◌, ◌-◌, ◌<◌, ◌≤◌, max, ◌==◌, nat_le, List, [], ◌∷◌, ◌++◌, if◌then◌else◌, Option, Some, None}
+use Rattle.std.specs.Prelude.{◌≡◌, ◌⊎◌, ℕ, ◌+◌, ◌-◌, ◌<◌, ◌≤◌, max, ◌==◌, nat_le, List, [], ◌∷◌, ◌++◌, if◌then◌else◌, Option, Some, None, slice_get}
 use Rattle.nats_text.specs.declared.message.Message.{Message}
+use Rattle.nats_text.specs.declared.origin.Origin.{Origin}
 use Rattle.nats_text.specs.declared.message.Start.{Start}
 use Rattle.nats_text.specs.declared.message.Start.TheVariants.{Seq, Time}
 use Rattle.stream_fold.specs.declared.entry.Entry.{Entry}
 use Rattle.stream_fold.specs.declared.entry.Entry.TheVariants.{Put, Del, Purge, Expire, Bind, Limits}
 use Rattle.stream_fold.specs.declared.entry.BoundTo.{BoundTo}
 use Rattle.stream_fold.specs.declared.entry.Numbered.{Numbered}
-use Rattle.stream_fold.specs.declared.state.Binding.{Binding}
-use Rattle.stream_fold.specs.Histories.{History, put, last, kept, IsHole}
+use Rattle.stream_fold.specs.declared.parts.Binding.{Binding}
+use Rattle.stream_fold.specs.declared.entry.Mark.{Mark}
+use Rattle.stream_fold.specs.declared.config.Copies.{Copies}
+use Rattle.stream_fold.specs.declared.config.Copies.TheVariants.{Nothing, Mirror, Sources}
+use Rattle.stream_fold.specs.Histories.{History, either, put, last, kept, mark_of, stands, IsHole}
 
 -- what this entry binds
 abbrev pub bound_by : Entry → List Binding
@@ -42,6 +46,44 @@ configured (Time moment) = 1
 abbrev pub start_by : Option BoundTo → Start → ℕ
 start_by None start = configured start
 start_by (Some to) start = max 1 to.start
+
+-- the mark that this entry puts beside a message of the index
+abbrev pub mark_by : ℕ → Option Mark → Option ℕ
+mark_by index None = None
+mark_by index (Some mark) = if mark.index == index then Some mark.seq else None
+
+-- the mark of the last Put that has one of this index
+abbrev pub last_mark : ℕ → List Entry → Option ℕ
+last_mark index [] = None
+last_mark index (e ∷ es) = either (last_mark index es) (mark_by index (mark_of e))
+
+-- the mark of an index among these
+abbrev pub mark_in : ℕ → List Mark → Option ℕ
+mark_in index [] = None
+mark_in index (m ∷ ms) = if m.index == index then Some m.seq else mark_in index ms
+
+-- the origin that an index names
+abbrev pub origin_at : ℕ → Copies → Option Origin
+origin_at index Nothing = None
+origin_at index (Mirror origin) = if index == 0 then Some origin else None
+origin_at index (Sources origins) = slice_get origins index
+
+-- where the copy of an origin starts, and 1 where there is none
+abbrev pub start_of : Option BoundTo → Option Origin → ℕ
+start_of bound None = 1
+start_of bound (Some origin) = start_by bound origin.start
+
+abbrev pub start_at : ℕ → History → ℕ
+start_at index h = start_of (bound index h.entries) (origin_at index (stands h).limits.copies)
+
+abbrev pub mark_or : Option ℕ → ℕ → ℕ
+mark_or None number = number
+mark_or (Some mark) number = mark
+
+-- How far the copy of an index has come: the mark of its last message, else the number before its
+-- start.
+abbrev pub mark : ℕ → History → ℕ
+mark index h = mark_or (last_mark index h.entries) (start_at index h - 1)
 
 -- how far a mirror has come: its last number, or the one before its start
 abbrev pub front : Start → List Entry → ℕ

@@ -7,6 +7,7 @@ use Rattle.nats_text.specs.declared.message.Message.{Message}
 use Rattle.stream_fold.specs.declared.config.Config.{Config}
 use Rattle.stream_fold.specs.declared.entry.Entry.{Entry}
 use Rattle.stream_fold.specs.declared.entry.Entry.TheVariants.{Put, Del, Purge, Expire, Bind, Limits}
+use Rattle.stream_fold.specs.declared.entry.Mark.{Mark}
 use Rattle.stream_fold.specs.declared.entry.Numbered.{Numbered}
 
 pub record History : Type 0 where
@@ -63,6 +64,15 @@ moment_of (Limits config) = 0
 abbrev pub clock : List Entry → ℕ
 clock [] = 0
 clock (e ∷ es) = max (moment_of e) (clock es)
+
+-- the mark beside the message of a Put
+abbrev pub mark_of : Entry → Option Mark
+mark_of (Put number message mark) = mark
+mark_of (Del number) = None
+mark_of (Purge pattern below) = None
+mark_of (Expire now) = None
+mark_of (Bind index incarnation start) = None
+mark_of (Limits config) = None
 
 -- the configuration in force, and the messages that are kept, oldest first
 pub record Standing : Type 0 where

@@ -1,3 +1,9 @@
+pub mod Checking
 pub mod Copying
+pub mod Counting
 pub mod Held
 pub mod Histories
+pub mod Laws
+pub mod Parts
+pub mod Publishing
+pub mod RowLists

@@ -1,7 +1,10 @@
 ghost use Rattle.std.specs.Prelude.{◌≡◌};
+ghost use Rattle.stream_fold.specs.Checking.{config_fault, IsFault};
 
-use nats_text::{List, Mapping, Name, Origin, Pattern};
-use std::alloc::AllocError;
+use crate::wrong_member::{own_subjects, wrong_member};
+use nats_text::{Bytes, List, Mapping, Name, NoMemory, Origin, Pattern};
+use std::alloc::{AllocError, Global};
+use thiserror::Error;
 
 /// Which message goes where a limit is reached: the oldest, or the one that is published.
 #[derive(Clone, Copy, Debug, PartialEq, Eq)]
@@ -35,6 +38,44 @@ pub struct Config {
     pub window: u64,
     pub transform: Option<Mapping>,
     pub copies: Copies,
+}
+
+/// Why a configuration isn't one that a stream may have.
+#[derive(Debug, Drop, Error)]
+pub enum ConfigFault {
+    /// The first wrong member, by its name in JetStream.
+    #[error("bad member")]
+    Bad { member: Bytes },
+    /// There was no memory.
+    #[error("out of memory")]
+    NoMemory,
+}
+
+impl From<NoMemory> for ConfigFault {
+    ghost use Rattle.std.specs.Prelude.{◌≡◌};
+    ghost use Rattle.stream_fold.specs.declared.config.ConfigFault.TheVariants.{NoMemory as NoRoom};
+
+    ghost from_gives = { λ _ fault. fault ≡ NoRoom };
+
+    fn from(_: NoMemory) -> ConfigFault {
+        ConfigFault::NoMemory
+    }
+}
+
+impl Config {
+    /// Whether a stream may have this configuration, and the first member that is wrong otherwise.
+    pub fn check(&self, alloc: Global) -> Result<(), ConfigFault>
+        ensures { IsFault result (config_fault self.now) }
+    {
+        let own = own_subjects(alloc)?;
+        match wrong_member(self, &own) {
+            None => Ok(()),
+            Some(member) => {
+                let member = Bytes::from_slice(alloc, member)?;
+                Err(ConfigFault::Bad { member })
+            }
+        }
+    }
 }
 
 impl Clone for Copies {

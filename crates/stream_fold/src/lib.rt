@@ -4,13 +4,22 @@
 
 mod config;
 mod entry;
+pub mod laws;
+mod parts;
+mod publish;
+mod rows;
+mod same;
 mod state;
 mod trim;
+mod verdict;
+mod wrong_member;
 
-pub use config::{Config, Copies, Discard};
+pub use config::{Config, ConfigFault, Copies, Discard};
 pub use entry::{BoundTo, Entry, Mark, Numbered};
 pub use nats_text::{Mapping, Origin};
-pub use state::{Binding, StreamState};
+pub use parts::{Binding, Sent};
+pub use state::StreamState;
+pub use verdict::{Refusal, Verdict};
 
 #[cfg(test)]
 mod tests;

@@ -1,46 +1,37 @@
-ghost use Rattle.std.specs.Prelude.{◌≡◌, ◌<◌, ◌+◌, ◌^◌, ◌==◌, ◌↔◌, ℕ, [], length, not, IsTrue, IfOk, OnOk, filter, nat_le};
+ghost use Rattle.std.specs.Prelude.{◌≡◌, ◌<◌, ◌+◌, ◌^◌, ◌↔◌, [], length, IsTrue, IfOk, OnOk};
 ghost use Rattle.std.specs.Option.{option_copied};
-ghost use Rattle.stream_fold.specs.Histories.{History, with_entry, message_at, is_purged, is_expired};
-ghost use Rattle.stream_fold.specs.Copying.{binding_at};
-ghost use Rattle.stream_fold.specs.Held.{StandsFor, Fits, changed, held_after, first_of, index_count};
+ghost use Rattle.nats_text.specs.Sizes.{size};
+ghost use Rattle.stream_fold.specs.Histories.{History, with_entry, message_at, size_of};
+ghost use Rattle.stream_fold.specs.Copying.{binding_at, mark, mark_in, origin_at, start_of};
+ghost use Rattle.stream_fold.specs.Publishing.{GivesVerdict, verdict, last_of, next_match};
+ghost use Rattle.stream_fold.specs.Held.{StandsFor, Fits, HasRoom, KeepsMembers, held_after, first_of, index_count, id_of, sent_id, size_put};
 
-use crate::trim::trim;
-use crate::{BoundTo, Config, Copies, Entry, Numbered};
-use nats_text::{Message, NoMemory, Pattern, matches};
+use crate::parts::{Parts, change};
+use crate::publish::{last_of, next_match, verdict};
+use crate::rows::Rows;
+use crate::same::same_copies;
+use crate::{BoundTo, Config, Copies, Entry, Mark, Numbered, Refusal, Verdict};
+use nats_text::{Bytes, List, Message, NoMemory, Origin, Pattern, Start, Subject};
 use std::alloc::Global;
 use std::marker::Model;
 
-/// What an index of a copy is bound to.
-#[derive(Clone, Copy, Debug, PartialEq, Eq)]
-pub struct Binding {
-    pub index: u32,
-    pub to: BoundTo,
-}
-
 /// What a history leaves: the configuration in force, the messages that are kept, the last number,
-/// the clock, and what the copies are bound to. Contracts compare it with that history.
+/// the clock, what the copies are bound to and how far they have come, and what clients sent lately.
+/// Contracts compare it with that history.
 #[derive(Debug, Drop)]
 pub struct StreamState {
-    config: Config,
-    rows: Vec<Numbered>,
-    last: u64,
-    clock: u64,
-    bindings: Vec<Binding>,
+    parts: Parts,
 }
 
 impl Model for StreamState {
-    ghost use Rattle.std.specs.Prelude.{◌-◌, ◌<◌, ◌^◌, min, vec_len};
-    ghost use Rattle.std.specs.Vec.{vec_capacity};
     ghost use Rattle.stream_fold.specs.Held.{State};
+    ghost use Rattle.stream_fold.specs.Parts.{state_in, held_in, IsSettled};
 
     ghost Value = { State };
 
-    ghost view = { λ s. record {
-      held = record { limits = s.config; rows = s.rows.items; last = s.last; clock = s.clock; bindings = s.bindings.items };
-      room = min (vec_capacity s.rows - vec_len s.rows) (vec_capacity s.bindings - vec_len s.bindings);
-    } };
+    ghost view = { λ s. state_in s.parts };
 
-    ghost invariant = { λ s. s.last < 2 ^ 63 };
+    ghost invariant = { λ s. IsSettled (held_in s.parts) };
 }
 
 impl StreamState {
@@ -48,12 +39,20 @@ impl StreamState {
     pub fn new(alloc: Global, config: Config) -> Result<StreamState, NoMemory>
         ensures { IfOk result (λ state. StandsFor state (record { config = config; entries = [] })) }
     {
+        let window = config.window;
         Ok(StreamState {
-            config,
-            rows: Vec::new(alloc),
-            last: 0,
-            clock: 0,
-            bindings: Vec::new(alloc),
+            parts: Parts {
+                alloc,
+                config,
+                window,
+                rows: Rows::new(alloc),
+                last: 0,
+                clock: 0,
+                bindings: Vec::new(alloc),
+                marks: Vec::new(alloc),
+                sent: Vec::new(alloc),
+                spare: None,
+            },
         })
     }
 
@@ -61,7 +60,7 @@ impl StreamState {
     pub fn config(&self) -> &Config
         ensures { result.now ≡ self.now.held.limits }
     {
-        &self.config
+        &self.parts.config
     }
 
     /// The greatest number put, else 0.
@@ -69,31 +68,38 @@ impl StreamState {
         ensures value { result ≡ self.now.held.last }
         ensures bound { result < 2 ^ 63 }
     {
-        self.last
+        self.parts.last
     }
 
     /// The greatest time of a message or moment of an expiry, else 0, in nanoseconds since 1970.
     pub fn clock(&self) -> u64
         ensures { result ≡ self.now.held.clock }
     {
-        self.clock
+        self.parts.clock
     }
 
     /// How many messages are kept.
     pub fn count(&self) -> u64
         ensures { result ≡ length self.now.held.rows }
     {
-        self.rows.len() as u64
+        self.rows().len() as u64
+    }
+
+    /// The sum of the sizes of the messages that are kept, in bytes.
+    pub fn size(&self) -> u64
+        ensures { result ≡ size_of self.now.held.rows }
+    {
+        self.parts.rows.total()
     }
 
     /// The least kept number, or one past the last where none is kept, or 0 where nothing was put.
     pub fn first(&self) -> u64
         ensures { result ≡ first_of self.now.held.rows self.now.held.last }
     {
-        match self.rows.first() {
+        match self.rows().first() {
             Some(row) => row.seq,
-            None if self.last == 0 => 0,
-            None => self.last + 1,
+            None if self.last() == 0 => 0,
+            None => self.last() + 1,
         }
     }
 
@@ -101,7 +107,7 @@ impl StreamState {
     pub fn kept(&self, seq: u64) -> Option<&Message>
         ensures { option_copied result ≡ message_at seq self.now.held.rows }
     {
-        for row in &self.rows {
+        for row in self.rows() {
             if row.seq == seq {
                 return Some(&row.message);
             }
@@ -113,14 +119,14 @@ impl StreamState {
     pub fn rows(&self) -> &[Numbered]
         ensures { result.now ≡ self.now.held.rows }
     {
-        self.rows.as_slice()
+        self.parts.rows.as_slice()
     }
 
     /// What an index of the copies is bound to.
     pub fn bound(&self, index: u32) -> Option<BoundTo>
         ensures { result ≡ binding_at index self.now.held.bindings }
     {
-        for binding in &self.bindings {
+        for binding in &self.parts.bindings {
             if binding.index == index {
                 return Some(binding.to);
             }
@@ -128,76 +134,171 @@ impl StreamState {
         None
     }
 
+    /// How far the copy of an index has come: the mark of its last message, else the number before the
+    /// one where it starts.
+    pub fn mark(&self, index: u32) -> u64
+        ensures { (h : History) → StandsFor self.now h → result ≡ mark index h }
+    {
+        match last_mark(&self.parts.marks, index) {
+            Some(seq) => seq,
+            None => start_of(self.bound(index), origin_at(&self.config().copies, index)) - 1,
+        }
+    }
+
+    /// What a publish of this message at this moment, in nanoseconds since 1970, is answered: whether
+    /// it is new or a repeat, or the first refusal of those in the order of [`Refusal`], where the test
+    /// for a repeat comes behind `WrongStream`.
+    pub fn check(&self, alloc: Global, message: &Message, now: u64) -> Result<Verdict, Refusal>
+        ensures { (h : History) → StandsFor self.now h → GivesVerdict result (verdict h message.now now) }
+    {
+        verdict(&self.parts, alloc, message, now)
+    }
+
+    /// The greatest kept number of a subject.
+    pub fn last_of(&self, subject: &Subject) -> Option<u64>
+        ensures { result ≡ last_of subject.now self.now.held.rows }
+    {
+        last_of(self.rows(), subject.bytes())
+    }
+
+    /// The least kept number at or after `from` of a subject that one of the filters matches. All
+    /// subjects match where there is no filter.
+    pub fn next_match(&self, from: u64, filters: &List<Pattern>) -> Option<u64>
+        ensures { result ≡ next_match from filters.now self.now.held.rows }
+    {
+        next_match(from, filters.as_slice(), self.rows())
+    }
+
     /// Whether an entry may come next: a Put has a number above the last and below `2^63`, and so has
-    /// its mark; a Del names a kept number; a Bind names an index of the copies that isn't bound. A
-    /// Limits never fits yet.
+    /// its mark; a Del names a kept number; a Bind names an index of the copies that isn't bound; a
+    /// Limits keeps the name, the duplicate window and the copies.
     pub fn fits(&self, entry: &Entry) -> bool
         ensures { IsTrue result ↔ Fits self.now.held entry.now }
     {
         match entry {
             Entry::Put { seq, mark, .. } => {
-                self.last < *seq && *seq < 1 << 63 && mark.is_none_or(|mark| mark.seq < 1 << 63)
+                self.last() < *seq && *seq < 1 << 63 && mark.is_none_or(|mark| mark.seq < 1 << 63)
             }
             Entry::Del { seq } => self.kept(*seq).is_some(),
             Entry::Purge { .. } => true,
             Entry::Expire { .. } => true,
             Entry::Bind { index, .. } => {
-                (*index as usize) < index_count(&self.config.copies) && self.bound(*index).is_none()
+                (*index as usize) < index_count(&self.config().copies)
+                    && self.bound(*index).is_none()
             }
-            Entry::Limits { .. } => false,
+            Entry::Limits { config } => keeps_members(self.config(), config),
         }
     }
 
-    /// Makes room for one entry, so that `apply` takes no memory.
-    pub fn reserve_for(&mut self, _entry: &Entry) -> Result<(), NoMemory>
+    /// Makes room for one entry, so that `apply` takes no memory. There is none either where the sum
+    /// of the sizes would pass `2^64 - 1`.
+    pub fn reserve_for(&mut self, entry: &Entry) -> Result<(), NoMemory>
         ensures held { self.new.held ≡ self.old.held }
-        ensures ok { OnOk result (0 < self.new.room) }
+        ensures ok { OnOk result (HasRoom self.new entry.now) }
     {
-        self.rows.reserve(1)?;
-        self.bindings.reserve(1)?;
+        if !sum_fits(self.size(), entry) {
+            return Err(NoMemory);
+        }
+        self.parts.spare = id_of(self.parts.alloc, entry)?;
+        self.parts.rows.reserve()?;
+        self.parts.bindings.reserve(1)?;
+        self.parts.marks.reserve(1)?;
+        self.parts.sent.reserve(1)?;
         Ok(())
     }
 
     /// Takes an entry. The state then stands for the history with that entry.
     pub fn apply(&mut self, entry: Entry)
         requires fits { Fits self.old.held entry }
-        requires room { 0 < self.old.room }
+        requires room { HasRoom self.old entry }
         ensures step { self.new.held ≡ held_after self.old.held entry }
         ensures history { (history : History) → StandsFor self.old history → StandsFor self.new (with_entry history entry) }
     {
-        self.change(entry);
-        trim(&mut self.rows, &self.config);
+        change(&mut self.parts, entry);
+        self.parts.rows.trim(&self.parts.config);
     }
+}
 
-    /// Does what the entry says, before the limits.
-    fn change(&mut self, entry: Entry)
-        requires fits { Fits self.old.held entry }
-        requires room { 0 < self.old.room }
-        ensures { self.new.held ≡ changed self.old.held entry }
-    {
-        match entry {
-            Entry::Put { seq, message, .. } => {
-                self.clock = self.clock.max(message.time);
-                self.rows.push_reserved(Numbered { seq, message });
-                self.last = seq;
-            }
-            Entry::Del { seq } => delete(&mut self.rows, seq),
-            Entry::Purge { pattern, below } => purge(&mut self.rows, &pattern, below),
-            Entry::Expire { now } => {
-                self.clock = self.clock.max(now);
-                expire(&mut self.rows, self.config.max_age, now);
-            }
-            Entry::Bind {
-                index,
-                incarnation,
-                start,
-            } => self.bindings.push_reserved(Binding {
-                index,
-                to: BoundTo { incarnation, start },
-            }),
-            Entry::Limits { config } => self.config = config,
+fn last_mark(marks: &[Mark], index: u32) -> Option<u64>
+    ensures { result ≡ mark_in index marks.now }
+{
+    for mark in marks {
+        if mark.index == index {
+            return Some(mark.seq);
         }
     }
+    None
+}
+
+/// The origin that an index names.
+fn origin_at(copies: &Copies, index: u32) -> Option<&Origin>
+    ensures { option_copied result ≡ origin_at index copies.now }
+{
+    match copies {
+        Copies::Nothing => None,
+        Copies::Mirror(origin) => { if index == 0 { Some(origin) } else { None } }
+        Copies::Sources(origins) => origins.get(index as usize),
+    }
+}
+
+fn start_of(bound: Option<BoundTo>, origin: Option<&Origin>) -> u64
+    ensures value { result ≡ start_of bound (option_copied origin.entry) }
+    ensures positive { 0 < result }
+{
+    match (origin, bound) {
+        (None, _) => 1,
+        (Some(_), Some(to)) => to.start.max(1),
+        (Some(origin), None) => match origin.start {
+            Start::Seq(seq) => seq.max(1),
+            Start::Time(_) => 1,
+        },
+    }
+}
+
+/// Whether the size of the entry's message and this sum have a sum of 64 bits.
+fn sum_fits(sum: u64, entry: &Entry) -> bool
+    ensures { IsTrue result ↔ sum + size_put entry.now < 2 ^ 64 }
+{
+    match entry {
+        Entry::Put { message, .. } => message.left_of(u64::MAX - sum).is_some(),
+        Entry::Del { .. } => true,
+        Entry::Purge { .. } => true,
+        Entry::Expire { .. } => true,
+        Entry::Bind { .. } => true,
+        Entry::Limits { .. } => true,
+    }
+}
+
+/// The identifier under which a client sent the entry's message.
+fn id_of(alloc: Global, entry: &Entry) -> Result<Option<Bytes>, NoMemory>
+    ensures { IfOk result (λ id. id ≡ id_of entry.now) }
+{
+    match entry {
+        Entry::Put { message, mark, .. } => sent_id(alloc, message, *mark),
+        Entry::Del { .. } => Ok(None),
+        Entry::Purge { .. } => Ok(None),
+        Entry::Expire { .. } => Ok(None),
+        Entry::Bind { .. } => Ok(None),
+        Entry::Limits { .. } => Ok(None),
+    }
+}
+
+fn sent_id(alloc: Global, message: &Message, mark: Option<Mark>) -> Result<Option<Bytes>, NoMemory>
+    ensures { IfOk result (λ id. id ≡ sent_id message.now mark) }
+{
+    if mark.is_some() {
+        return Ok(None);
+    }
+    match message.headers.get(b"Nats-Msg-Id") {
+        Some(id) => Ok(Some(Bytes::from_slice(alloc, id)?)),
+        None => Ok(None),
+    }
+}
+
+fn keeps_members(old: &Config, new: &Config) -> bool
+    ensures { IsTrue result ↔ KeepsMembers old.now new.now }
+{
+    new.name == old.name && new.window == old.window && same_copies(&new.copies, &old.copies)
 }
 
 fn index_count(copies: &Copies) -> usize
@@ -207,45 +308,5 @@ fn index_count(copies: &Copies) -> usize
         Copies::Nothing => 0,
         Copies::Mirror(_) => 1,
         Copies::Sources(origins) => origins.len(),
-    }
-}
-
-fn delete(rows: &mut Vec<Numbered>, seq: u64)
-    ensures { rows.new.items ≡ filter (λ row. not (row.seq == seq)) rows.old.items }
-{
-    rows.retain(|row| row.seq != seq);
-}
-
-fn purge(rows: &mut Vec<Numbered>, pattern: &Pattern, below: u64)
-    ensures { rows.new.items ≡ filter (λ row. not (is_purged pattern.now below row)) rows.old.items }
-{
-    rows.retain(|row| !is_purged(row, pattern, below));
-}
-
-fn is_purged(row: &Numbered, pattern: &Pattern, below: u64) -> bool
-    ensures { result ≡ is_purged pattern.now below row.now }
-{
-    row.seq < below && matches(pattern, &row.message.subject)
-}
-
-fn expire(rows: &mut Vec<Numbered>, max_age: u64, now: u64)
-    ensures { rows.new.items ≡ filter (λ row. not (is_expired max_age now row)) rows.old.items }
-{
-    rows.retain(|row| !is_expired(row, max_age, now));
-}
-
-fn is_expired(row: &Numbered, max_age: u64, now: u64) -> bool
-    ensures { result ≡ is_expired max_age now row.now }
-{
-    max_age != 0 && is_older(row.message.time, max_age, now)
-}
-
-/// Whether so much time has passed since the moment.
-fn is_older(moment: u64, age: u64, now: u64) -> bool
-    ensures { result ≡ nat_le (moment + age) now }
-{
-    match moment.checked_add(age) {
-        Some(end) => end <= now,
-        None => false,
     }
 }

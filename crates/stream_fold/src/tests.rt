@@ -119,3 +119,118 @@ fn entries_leave_what_their_history_says(rt: HostRuntime) -> Result<(), Fail> {
     }
     Ok(())
 }
+
+/// A stream of the subject `a` that keeps one message and is full then.
+fn full_of_one(alloc: Global) -> Result<Config, TextFault> {
+    let mut config = mirror(alloc)?;
+    config.subjects.push(Pattern::read(alloc, b"a")?)?;
+    config.max_msgs = 1;
+    config.discard = Discard::New;
+    config.window = 10;
+    config.copies = Copies::Nothing;
+    Ok(config)
+}
+
+fn sent(alloc: Global, name: &[u8], value: &[u8]) -> Result<Message, TextFault> {
+    let mut sent = message(alloc, b"a", 5)?;
+    if Headers::legal(name, value) {
+        sent.headers.set(name, value)?;
+    }
+    Ok(sent)
+}
+
+/// A stream of one message, which a client sent as `x` at the moment 5.
+fn filled(alloc: Global) -> Result<StreamState, TextFault> {
+    let mut state = StreamState::new(alloc, full_of_one(alloc)?)?;
+    let message = sent(alloc, b"Nats-Msg-Id", b"x")?;
+    let entry = Entry::Put {
+        seq: 1,
+        message,
+        mark: None,
+    };
+    takes(&mut state, entry)?;
+    Ok(state)
+}
+
+/// The kind of an answer, and its first number.
+fn told(answer: Result<Verdict, Refusal>) -> (u8, u64) {
+    match answer {
+        Ok(Verdict::Fresh) => (0, 0),
+        Ok(Verdict::Duplicate { seq }) => (1, seq),
+        Err(Refusal::BadHeader { .. }) => (2, 0),
+        Err(Refusal::WrongLast { kept }) => (3, kept),
+        Err(Refusal::Full { count, .. }) => (4, count),
+        Err(_) => (5, 0),
+    }
+}
+
+fn answer(alloc: Global, state: &StreamState, name: &[u8], value: &[u8], now: u64) -> (u8, u64) {
+    match sent(alloc, name, value) {
+        Ok(message) => told(state.check(alloc, &message, now)),
+        Err(_) => (6, 0),
+    }
+}
+
+#[test]
+fn a_publish_is_answered(rt: HostRuntime) -> Result<(), Fail> {
+    let alloc = rt.alloc();
+    let state = filled(alloc)?;
+    // A repeat within the window, and one that is as old as the window.
+    assert!(rt; answer(alloc, &state, b"Nats-Msg-Id", b"x", 14) == (1, 1));
+    assert!(rt; answer(alloc, &state, b"Nats-Msg-Id", b"x", 15) == (4, 2));
+    assert!(rt; answer(alloc, &state, b"Nats-Msg-Id", b"y", 14) == (4, 2));
+    assert!(rt; answer(alloc, &state, b"Nats-TTL", b"1", 14) == (2, 0));
+    assert!(rt; answer(alloc, &state, b"Nats-Expected-Last-Sequence", b"2", 14) == (3, 1));
+    Ok(())
+}
+
+#[test]
+fn a_state_finds_its_messages(rt: HostRuntime) -> Result<(), Fail> {
+    let alloc = rt.alloc();
+    let state = filled(alloc)?;
+    let subject = Subject::read(alloc, b"a")?;
+    assert!(rt; state.last_of(&subject) == Some(1));
+    assert!(rt; state.next_match(1, &List::new(alloc)) == Some(1));
+    assert!(rt; state.next_match(2, &List::new(alloc)).is_none());
+    // A subject of one byte, a header block of 28 and a payload of four.
+    assert!(rt; state.size() == 33);
+    assert!(rt; state.mark(0) == 0);
+    Ok(())
+}
+
+/// Whether this is the first wrong member, or none is where it is empty.
+fn is_wrong(alloc: Global, config: &Config, wrong: &[u8]) -> bool {
+    match config.check(alloc) {
+        Ok(()) => wrong.is_empty(),
+        Err(ConfigFault::Bad { member }) => member.as_slice() == wrong,
+        Err(ConfigFault::NoMemory) => false,
+    }
+}
+
+#[test]
+fn a_wrong_member_is_named(rt: HostRuntime) -> Result<(), Fail> {
+    let alloc = rt.alloc();
+    let mut config = full_of_one(alloc)?;
+    assert!(rt; is_wrong(alloc, &config, b""));
+    config.window = 11;
+    assert!(rt; is_wrong(alloc, &config, b"duplicate_window"));
+    config.max_msg_size = 1 << 63;
+    assert!(rt; is_wrong(alloc, &config, b"max_msg_size"));
+    config.max_msgs = 1 << 63;
+    assert!(rt; is_wrong(alloc, &config, b"max_msgs"));
+    config.subjects = List::new(alloc);
+    assert!(rt; is_wrong(alloc, &config, b"subjects"));
+    Ok(())
+}
+
+#[test]
+fn limits_keep_what_never_changes(rt: HostRuntime) -> Result<(), Fail> {
+    let alloc = rt.alloc();
+    let state = filled(alloc)?;
+    let config = full_of_one(alloc)?;
+    assert!(rt; state.fits(&Entry::Limits { config }));
+    let mut config = full_of_one(alloc)?;
+    config.window = 9;
+    assert!(rt; !state.fits(&Entry::Limits { config }));
+    Ok(())
+}

@@ -1,22 +1,11 @@
-ghost use Rattle.std.specs.Prelude.{◌≡◌, ◌≤◌, nat_le, length, count_by, drop};
+ghost use Rattle.std.specs.Prelude.{◌≡◌, ◌≤◌, ◌<◌, ◌+◌, ◌^◌, nat_le, length, count_by, drop, vec_len};
 ghost use Rattle.std.specs.Str.{bytes_eq};
-ghost use Rattle.nats_text.specs.Sizes.{left_of};
-ghost use Rattle.stream_fold.specs.Histories.{trimmed, newest_of_each, newest_within, are_within, has_subject_of, size_of};
+ghost use Rattle.stream_fold.specs.Histories.{newest_of_each, newest_within, has_subject_of, size_of};
+ghost use Rattle.stream_fold.specs.RowLists.{counts_within};
 
 use crate::{Config, Numbered};
 
-/// Takes away what the limits don't allow: first the older messages of each subject, then the oldest
-/// of all.
-pub fn trim(rows: &mut Vec<Numbered>, config: &Config)
-    ensures { rows.new.items ≡ trimmed config.now rows.old.items }
-{
-    if config.max_per_subject != 0 {
-        keep_newest_of_each(rows, config.max_per_subject);
-    }
-    keep_newest_within(rows, config);
-}
-
-fn keep_newest_of_each(rows: &mut Vec<Numbered>, most: u64)
+pub fn keep_newest_of_each(rows: &mut Vec<Numbered>, most: u64)
     ensures { rows.new.items ≡ newest_of_each most rows.old.items }
 {
     let mut place = 0;
@@ -36,7 +25,7 @@ fn has_later(row: &Numbered, later: &[Numbered], most: u64) -> bool
     most <= count_of_subject(row.message.subject.bytes(), later) as u64
 }
 
-fn count_of_subject(subject: &[u8], rows: &[Numbered]) -> usize
+pub fn count_of_subject(subject: &[u8], rows: &[Numbered]) -> usize
     ensures { result ≡ count_by (λ row. bytes_eq row.message.subject subject.now) rows.now }
 {
     rows.iter()
@@ -44,43 +33,59 @@ fn count_of_subject(subject: &[u8], rows: &[Numbered]) -> usize
         .count()
 }
 
-fn keep_newest_within(rows: &mut Vec<Numbered>, config: &Config)
-    ensures { rows.new.items ≡ newest_within config.now rows.old.items }
-{
-    let excess = excess_of(rows, config);
-    if excess > 0 {
-        rows.rotate_left(excess);
-        let rest = rows.len() - excess;
-        rows.truncate(rest);
-    }
-}
-
-/// How many of the oldest messages have to go.
-fn excess_of(rows: &[Numbered], config: &Config) -> usize
+/// How many of the oldest messages have to go. `total` is the sum of the sizes, and then that of the
+/// others.
+pub fn excess_of(rows: &[Numbered], total: &mut u64, config: &Config) -> usize
+    requires { total.old ≡ size_of rows.now }
     ensures within { result ≤ length rows.now }
     ensures value { drop result rows.now ≡ newest_within config.now rows.now }
+    ensures total { total.new ≡ size_of (drop result rows.now) }
+    ensures bound { total.new < 2 ^ 64 }
 {
     let mut excess = 0;
-    while excess < rows.len() && !are_within(&rows[excess..], config) {
+    while excess < rows.len() && !are_within(config, rows.len() - excess, *total) {
+        *total -= rows[excess].message.size() as u64;
         excess += 1;
     }
     excess
 }
 
-fn are_within(rows: &[Numbered], config: &Config) -> bool
-    ensures { result ≡ are_within config.now rows.now }
+/// Whether so many messages of so many bytes are within the limits.
+pub fn are_within(config: &Config, count: usize, bytes: u64) -> bool
+    ensures { result ≡ counts_within config.now count bytes }
 {
-    let few = config.max_msgs == 0 || rows.len() as u64 <= config.max_msgs;
-    few && (config.max_bytes == 0 || left_of_rows(config.max_bytes, rows).is_some())
+    let few = config.max_msgs == 0 || count as u64 <= config.max_msgs;
+    few && (config.max_bytes == 0 || bytes <= config.max_bytes)
 }
 
-/// What is left of a room of so many bytes once all the messages are in it.
-fn left_of_rows(room: u64, rows: &[Numbered]) -> Option<u64>
-    ensures { result ≡ left_of room (size_of rows.now) }
+/// The sum of the sizes.
+pub fn total_of(rows: &[Numbered]) -> u64
+    requires { size_of rows.now < 2 ^ 64 }
+    ensures { result ≡ size_of rows.now }
 {
-    let mut room = room;
+    let mut total = 0;
     for row in rows {
-        room = row.message.left_of(room)?;
+        total += row.message.size() as u64;
     }
-    Some(room)
+    total
+}
+
+/// Takes away the first items.
+pub fn drop_front<T: Drop>(items: &mut Vec<T>, count: usize)
+    requires { count ≤ vec_len items.old }
+    ensures { items.new.items ≡ drop count items.old.items }
+{
+    items.rotate_left(count);
+    let rest = items.len() - count;
+    items.truncate(rest);
+}
+
+/// Whether so much time has passed since the moment.
+pub fn is_older(moment: u64, age: u64, now: u64) -> bool
+    ensures { result ≡ nat_le (moment + age) now }
+{
+    match moment.checked_add(age) {
+        Some(end) => end <= now,
+        None => false,
+    }
 }

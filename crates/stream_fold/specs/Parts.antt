@@ -1,0 +1,38 @@
+-- What the parts of a state stand for.
+use Rattle.std.specs.Prelude.{◌≡◌, ℕ, ◌-◌, ◌^◌, ◌<◌, min, vec_len, ⊤, List, [], ◌∷◌, count_by}
+use Rattle.std.specs.Vec.{vec_capacity}
+use Rattle.stream_fold.specs.declared.parts.Parts.{Parts}
+use Rattle.stream_fold.specs.declared.entry.Numbered.{Numbered}
+use Rattle.stream_fold.specs.Histories.{has_subject_of}
+use Rattle.stream_fold.specs.Held.{Held, State}
+
+abbrev pub held_in : Parts → Held
+held_in p = record {
+  limits = p.config;
+  window = p.window;
+  rows = p.rows.rows;
+  last = p.last;
+  clock = p.clock;
+  bindings = p.bindings.items;
+  marks = p.marks.items;
+  sent = p.sent.items;
+}
+
+-- how many entries may be taken without memory
+abbrev pub room_in : Parts → ℕ
+room_in p =
+    min (min p.rows.room (vec_capacity p.bindings - vec_len p.bindings))
+    (min (vec_capacity p.marks - vec_len p.marks) (vec_capacity p.sent - vec_len p.sent))
+
+abbrev pub state_in : Parts → State
+state_in p = record { held = held_in p; room = room_in p; spare = p.spare }
+
+-- none of the messages has so many later ones of its subject
+abbrev pub AreNewest : ℕ → List Numbered → Type 0
+AreNewest n [] = ⊤
+AreNewest n (row ∷ rows) = (count_by (has_subject_of row) rows < n) × AreNewest n rows
+
+-- the last number is below 2^63, and the limit of each subject takes nothing away
+pub record IsSettled (held : Held) : Type 0 where
+  pub last : held.last < 2 ^ 63
+  pub newest : ¬ (held.limits.max_per_subject ≡ 0) → AreNewest held.limits.max_per_subject held.rows

@@ -1,0 +1,7 @@
+pub mod Codecs
+pub mod Entries
+pub mod FieldCodecs
+pub mod Loops
+pub mod Parts
+pub mod Spelled
+pub mod Writes

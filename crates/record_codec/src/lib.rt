@@ -1,0 +1,19 @@
+//! The records of a journal as bytes: each record has one spelling, and nothing else is read.
+#![tactic(auto)]
+
+mod decoding;
+mod encoding;
+mod fault;
+mod fields;
+pub mod laws;
+mod reading;
+mod records;
+mod writing;
+
+pub use decoding::decode;
+pub use encoding::encode;
+pub use fault::RecFault;
+pub use records::Rec;
+
+#[cfg(test)]
+mod tests;

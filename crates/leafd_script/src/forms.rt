@@ -1,25 +1,50 @@
 ghost use Rattle.std.specs.Prelude.{◌≡◌, ◌∷◌, IfOk};
 ghost use Rattle.nats_text.specs.Pieces.{pieces, views};
-ghost use Rattle.leafd_script.specs.Words.{Gives};
-ghost use Rattle.leafd_script.specs.Lines.{GivesLine, line_of, args_of, form_of, other_form, node_line, stream_line, stream_options, plain_stream, stream_with, mirror_line, mirror_of, publish_line, publish_of, settle_line, show_line};
+ghost use Rattle.leafd_script.specs.Words.{Gives, is_one_of};
+ghost use Rattle.leafd_script.specs.Lines.{GivesLine, IfLine, MirrorsAnother, CopiesNothing, HasRightConfig, line_of, is_silent, args_of, form_of, word_form, later_verbs};
 
-use crate::words::{NOT_YET, is_word, name_of, node_name_of, subject_of, subject_option};
+use crate::configured::{mirror_line, stream_line, update_line};
+use crate::plain::plain_form;
+use crate::publishing::{headed_line, publish_line};
+use crate::words::{BAD_LINE, NOT_YET, has_empty, is_one_of, is_word};
 use crate::{Line, LineFault};
-use nats_text::{Bytes, NoMemory, cut, pieces};
+use nats_text::{NoMemory, cut, pieces};
 use std::alloc::Global;
 
-/// Reads a line, without its line feed. `Bad` comes exactly where it is none of the forms.
+/// Reads a line, without its line feed. `None` comes exactly for an empty line and a comment, which
+/// begins with `#`. `Bad` comes exactly where the line is none of the forms, with the first kind in
+/// the order of [`ScriptKind`](crate::ScriptKind) from `NotYet` to `BadLine`, then that of the first
+/// bad word from the left, then `BadOption` for a configuration that no stream may have.
 pub fn read_line(alloc: Global, line: &[u8]) -> Result<Option<Line>, LineFault>
-    ensures { GivesLine result (line_of line.now) }
+    ensures exact { Gives result (line_of line.now) }
+
+    // A mirror copies all of a stream on another node, from its first message on.
+    ensures mirror { IfLine result MirrorsAnother }
+    ensures stream { IfLine result CopiesNothing }
+
+    // The configuration of a stream or a mirror is one that `Config::check` accepts.
+    ensures config { IfLine result HasRightConfig }
 {
+    if is_silent(line) {
+        return Ok(None);
+    }
     match form_of(alloc, line) {
         Ok(line) => Ok(Some(line)),
         Err(fault) => Err(fault),
     }
 }
 
+fn is_silent(line: &[u8]) -> bool
+    ensures { result ≡ is_silent line.now }
+{
+    match line {
+        [] => true,
+        [first, ..] => *first == b'#',
+    }
+}
+
 fn form_of(alloc: Global, line: &[u8]) -> Result<Line, LineFault>
-    ensures { Gives result (form_of (pieces 32 line.now)) }
+    ensures { GivesLine result (form_of (pieces 32 line.now)) }
 {
     match cut(line, b' ') {
         Some((verb, rest)) => form_with(alloc, verb, Some(rest)),
@@ -28,13 +53,16 @@ fn form_of(alloc: Global, line: &[u8]) -> Result<Line, LineFault>
 }
 
 fn form_with(alloc: Global, verb: &[u8], rest: Option<&[u8]>) -> Result<Line, LineFault>
-    ensures { Gives result (form_of (verb.now ∷ args_of rest.entry)) }
+    ensures { GivesLine result (form_of (verb.now ∷ args_of rest.entry)) }
 {
     if is_word(verb, b"pub") {
         return publish_line(alloc, rest);
     }
+    if is_word(verb, b"hpub") {
+        return headed_line(alloc, rest);
+    }
     let args = words_of(alloc, rest)?;
-    other_form(alloc, verb, &args)
+    word_form(alloc, verb, &args)
 }
 
 /// The words behind the first one.
@@ -47,168 +75,33 @@ fn words_of(alloc: Global, rest: Option<&[u8]>) -> Result<Vec<&[u8]>, NoMemory>
     }
 }
 
-fn other_form(alloc: Global, verb: &[u8], args: &[&[u8]]) -> Result<Line, LineFault>
-    ensures { Gives result (other_form verb.now (views args.now)) }
+fn word_form(alloc: Global, verb: &[u8], args: &[&[u8]]) -> Result<Line, LineFault>
+    ensures { GivesLine result (word_form verb.now (views args.now)) }
 {
-    if is_word(verb, b"node") {
-        node_line(alloc, args)
+    if is_later_verb(verb) {
+        Err(NOT_YET)
     } else if is_word(verb, b"stream") {
         stream_line(alloc, args)
     } else if is_word(verb, b"mirror") {
         mirror_line(alloc, args)
-    } else if is_word(verb, b"settle") {
-        settle_line(args)
-    } else if is_word(verb, b"show") {
-        show_line(alloc, args)
+    } else if is_word(verb, b"update") {
+        update_line(alloc, args)
+    } else if has_empty(args) {
+        Err(BAD_LINE)
     } else {
-        Err(NOT_YET)
+        plain_form(alloc, verb, args)
     }
 }
 
-fn node_line(alloc: Global, args: &[&[u8]]) -> Result<Line, LineFault>
-    ensures { Gives result (node_line (views args.now)) }
+/// Whether a line that begins so isn't built yet.
+fn is_later_verb(verb: &[u8]) -> bool
+    ensures { result ≡ is_one_of later_verbs verb.now }
 {
-    let [node] = args else {
-        return Err(NOT_YET);
-    };
-    let node = node_name_of(alloc, node)?;
-    Ok(Line::Node { node })
-}
-
-fn settle_line(args: &[&[u8]]) -> Result<Line, LineFault>
-    ensures { Gives result (settle_line (views args.now)) }
-{
-    match args {
-        [] => Ok(Line::Settle),
-        _ => Err(NOT_YET),
-    }
-}
-
-fn show_line(alloc: Global, args: &[&[u8]]) -> Result<Line, LineFault>
-    ensures { Gives result (show_line (views args.now)) }
-{
-    let [node, name] = args else {
-        return Err(NOT_YET);
-    };
-    let node = name_of(alloc, node)?;
-    let name = name_of(alloc, name)?;
-    Ok(Line::Show { node, name })
-}
-
-fn stream_line(alloc: Global, args: &[&[u8]]) -> Result<Line, LineFault>
-    ensures { Gives result (stream_line (views args.now)) }
-{
-    let [node, name, options @ ..] = args else {
-        return Err(NOT_YET);
-    };
-    stream_options(alloc, node, name, options)
-}
-
-fn stream_options(
-    alloc: Global,
-    node: &[u8],
-    name: &[u8],
-    options: &[&[u8]],
-) -> Result<Line, LineFault>
-    ensures { Gives result (stream_options node.now name.now (views options.now)) }
-{
-    match options {
-        [] => plain_stream(alloc, node, name),
-        [option] => stream_with(alloc, node, name, option),
-        _ => Err(NOT_YET),
-    }
-}
-
-fn plain_stream(alloc: Global, node: &[u8], name: &[u8]) -> Result<Line, LineFault>
-    ensures { Gives result (plain_stream node.now name.now) }
-{
-    let node = name_of(alloc, node)?;
-    let name = name_of(alloc, name)?;
-    Ok(Line::Stream {
-        node,
-        name,
-        subject: None,
-    })
-}
-
-fn stream_with(alloc: Global, node: &[u8], name: &[u8], option: &[u8]) -> Result<Line, LineFault>
-    ensures { Gives result (stream_with node.now name.now option.now) }
-{
-    let node = name_of(alloc, node)?;
-    let name = name_of(alloc, name)?;
-    let subject = subject_option(alloc, option)?;
-    Ok(Line::Stream {
-        node,
-        name,
-        subject: Some(subject),
-    })
-}
-
-fn mirror_line(alloc: Global, args: &[&[u8]]) -> Result<Line, LineFault>
-    ensures { Gives result (mirror_line (views args.now)) }
-{
-    if let [node, name, origin_node, origin] = args {
-        return mirror_of(alloc, node, name, origin_node, origin);
-    }
-    Err(NOT_YET)
-}
-
-fn mirror_of(
-    alloc: Global,
-    node: &[u8],
-    name: &[u8],
-    origin_node: &[u8],
-    origin: &[u8],
-) -> Result<Line, LineFault>
-    ensures { Gives result (mirror_of node.now name.now origin_node.now origin.now) }
-{
-    let node = name_of(alloc, node)?;
-    let name = name_of(alloc, name)?;
-    let origin_node = name_of(alloc, origin_node)?;
-    let origin = name_of(alloc, origin)?;
-    Ok(Line::Mirror {
-        node,
-        name,
-        origin_node,
-        origin,
-    })
-}
-
-fn publish_line(alloc: Global, rest: Option<&[u8]>) -> Result<Line, LineFault>
-    ensures { Gives result (publish_line (args_of rest.entry)) }
-{
-    let Some(rest) = rest else {
-        return Err(NOT_YET);
-    };
-    let Some((node, rest)) = cut(rest, b' ') else {
-        return Err(NOT_YET);
-    };
-    let Some((name, rest)) = cut(rest, b' ') else {
-        return Err(NOT_YET);
-    };
-    match cut(rest, b' ') {
-        Some((subject, text)) => publish_of(alloc, node, name, subject, text),
-        None => publish_of(alloc, node, name, rest, b""),
-    }
-}
-
-fn publish_of(
-    alloc: Global,
-    node: &[u8],
-    name: &[u8],
-    subject: &[u8],
-    text: &[u8],
-) -> Result<Line, LineFault>
-    ensures { Gives result (publish_of node.now name.now subject.now text.now) }
-{
-    let node = name_of(alloc, node)?;
-    let name = name_of(alloc, name)?;
-    let subject = subject_of(alloc, subject)?;
-    let text = Bytes::from_slice(alloc, text)?;
-    Ok(Line::Publish {
-        node,
-        name,
-        subject,
-        text,
-    })
+    is_one_of(
+        &[
+            b"sources", b"remove", b"carry", b"lose", b"repeat", b"reverse", b"drop", b"cut",
+            b"join", b"crash", b"crashat",
+        ],
+        verb,
+    )
 }

@@ -1,5 +1,5 @@
 use Rattle.leafd_script.proofs.Shapes.{joined-pieces}
-use Rattle.leafd_script.proofs.forms.publish_line.Goals as goal
+use Rattle.leafd_script.proofs.publishing.publish_line.Goals as goal
 
 -- the words are the three that were cut off and those of the text
 pub returns-in-Some-cut-3 : goal.returns-in-Some-cut-3

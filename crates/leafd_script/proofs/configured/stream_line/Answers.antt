@@ -1,0 +1,5 @@
+use Rattle.leafd_script.proofs.Shapes.{few_for_stream}
+use Rattle.leafd_script.proofs.configured.stream_line.Goals as goal
+
+pub returns-in_default : goal.returns-in_default
+returns-in_default c = few_for_stream c.args.args.now c.in_default.len_below

@@ -1,6 +1,7 @@
 use crate::run::{Want, check_with};
 use leaf_edges::{MemSink, MemSource};
 use leafd_cli::Status;
+use leafd_script::ScriptKind;
 use std::test::Fail;
 
 const SCRIPT: &[u8] = b"node hub\nstream hub S\npub hub S S a\n";
@@ -69,7 +70,7 @@ fn an_output_that_fails(rt: HostRuntime) -> Result<(), Fail> {
 fn statuses_have_their_numbers(rt: HostRuntime) -> Result<(), Fail> {
     let statuses = [
         (Status::Done, 0),
-        (crate::run::refused(1), 1),
+        (crate::run::refused(1, ScriptKind::BadLine), 1),
         (Status::Usage, 2),
         (Status::ReadFault, 3),
         (Status::WriteFault, 4),

@@ -1,5 +1,6 @@
 use crate::run::{Want, check, refused};
 use leafd_cli::Status;
+use leafd_script::ScriptKind;
 use std::alloc::{AllocError, Global};
 use std::test::Fail;
 
@@ -18,9 +19,9 @@ fn a_script_has_a_longest_length(rt: HostRuntime) -> Result<(), Fail> {
     let alloc = rt.alloc();
     let longest = vec![in alloc; b'\n'; LONGEST]?;
     let want = Want {
-        status: refused(1),
+        status: Status::Done,
         out: b"",
-        err: b"leafd: line 1: NotYet\n",
+        err: b"",
     };
     check(&rt, rt.alloc(), &longest, &want)?;
     let longer = vec![in alloc; b'\n'; LONGEST + 1]?;
@@ -45,9 +46,9 @@ fn a_payload_has_a_longest_length(rt: HostRuntime) -> Result<(), Fail> {
     check(&rt, rt.alloc(), &longest, &want)?;
     let longer = joined(alloc, front, b'a', LONGEST_PAYLOAD + 1)?;
     let want = Want {
-        status: refused(3),
+        status: refused(3, ScriptKind::TooMany),
         out: b"2 made\n",
-        err: b"leafd: line 3: NotYet\n",
+        err: b"leafd: line 3: TooMany\n",
     };
     check(&rt, rt.alloc(), &longer, &want)
 }
@@ -55,24 +56,28 @@ fn a_payload_has_a_longest_length(rt: HostRuntime) -> Result<(), Fail> {
 #[test]
 fn bad_bytes_end_a_script_at_their_line(rt: HostRuntime) -> Result<(), Fail> {
     let alloc = rt.alloc();
-    let lines: [Vec<u8>; 8] = [
-        joined(alloc, b"node ", b'n', 65)?,
-        joined(alloc, b"stream hub ", b'n', 65)?,
-        joined(alloc, b"", b'n', 3_000_000)?,
-        joined(alloc, b"settle", b' ', 3_000_000)?,
-        joined(alloc, b"pub hub S ", 0xff, 1)?,
-        joined(alloc, b"node ", 0xc3, 1)?,
-        joined(alloc, b"pub hub T S ", b'a', 1)?,
-        joined(alloc, b"node ", 0, 1)?,
+    let name = (ScriptKind::BadName, b"leafd: line 3: BadName\n".as_slice());
+    let line = (ScriptKind::BadLine, b"leafd: line 3: BadLine\n".as_slice());
+    let rows: [(Vec<u8>, (ScriptKind, &[u8])); 7] = [
+        (joined(alloc, b"node ", b'n', 65)?, name),
+        (joined(alloc, b"stream hub ", b'n', 65)?, name),
+        (joined(alloc, b"", b'n', 3_000_000)?, line),
+        (joined(alloc, b"settle", b' ', 3_000_000)?, line),
+        (joined(alloc, b"node ", 0xc3, 1)?, name),
+        (joined(alloc, b"node ", 0, 1)?, name),
+        (
+            joined(alloc, b"pub hub S ", 0xff, 1)?,
+            (ScriptKind::BadSubject, b"leafd: line 3: BadSubject\n"),
+        ),
     ];
-    for line in &lines {
+    for (line, (kind, err)) in &rows {
         let mut script = b"node hub\nstream hub S\n".to_vec(alloc)?;
         script.extend_from_slice(line)?;
         script.extend_from_slice(b"\nstream hub U\n")?;
         let want = Want {
-            status: refused(3),
+            status: refused(3, *kind),
             out: b"2 made\n",
-            err: b"leafd: line 3: NotYet\n",
+            err,
         };
         check(&rt, rt.alloc(), &script, &want)?;
     }
@@ -88,4 +93,16 @@ fn a_name_may_have_64_bytes(rt: HostRuntime) -> Result<(), Fail> {
         err: b"",
     };
     check(&rt, rt.alloc(), &script, &want)
+}
+
+#[test]
+fn a_script_has_at_most_16_nodes(rt: HostRuntime) -> Result<(), Fail> {
+    let script =
+        b"node a\nnode b\nnode c\nnode d\nnode e\nnode f\nnode g\nnode h\nnode i\nnode j\nnode k\nnode l\nnode m\nnode n\nnode o\nnode p\nnode q\n";
+    let want = Want {
+        status: refused(17, ScriptKind::TooMany),
+        out: b"",
+        err: b"leafd: line 17: TooMany\n",
+    };
+    check(&rt, rt.alloc(), script, &want)
 }

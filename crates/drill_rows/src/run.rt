@@ -14,11 +14,8 @@ pub struct Want<'a> {
 }
 
 /// A script whose line of this number isn't legal in its place.
-pub fn refused(line: u64) -> Status {
-    Status::ScriptFault {
-        line,
-        kind: ScriptKind::NotYet,
-    }
+pub fn refused(line: u64, kind: ScriptKind) -> Status {
+    Status::ScriptFault { line, kind }
 }
 
 /// Runs `leafd drill` over a script.

@@ -1,8 +1,6 @@
 -- Rows that a copy takes one after another.
 use Rattle.std.proofs.Common.{◌≡◌, ℕ, suc, ◌^◌, ◌<◌, ◌≤◌, List, [], ◌∷◌, ◌++◌, map, Bool, true, false, cond, ltb, Option, None, Some, refl, sym, subst, arith, append_assoc, append-nil}
 use Rattle.std.proofs.lemmas.Bool.{ltb-true}
-use Rattle.stream_fold.specs.declared.config.Copies.{Copies}
-use Rattle.stream_fold.specs.declared.config.Copies.TheVariants.{Nothing, Mirror, Sources}
 use Rattle.stream_fold.specs.declared.entry.Entry.{Entry}
 use Rattle.stream_fold.specs.declared.entry.Entry.TheVariants.{Bind}
 use Rattle.stream_fold.specs.declared.entry.BoundTo.{BoundTo}
@@ -10,13 +8,12 @@ use Rattle.stream_fold.specs.declared.entry.Numbered.{Numbered}
 use Rattle.stream_fold.specs.Histories.{last, kept}
 use Rattle.stream_fold.specs.Copying.{bound}
 use Rattle.stream_fold.proofs.Folds.{last-push}
-use Rattle.stream_fold.proofs.KeptRows.{EachRow, EachRow-weaker, EachRow-filter, Rises, seqs, kept-rises}
+use Rattle.stream_fold.proofs.KeptRows.{EachRow, EachRow-weaker, Rises, seqs, kept-rises}
 use Rattle.leafd_cli.specs.Logs.{StreamLog, history_of}
-use Rattle.leafd_cli.specs.Plain.{copied_entry, rows_past, bound_log, missing_of, missing_kind, fed_rows, fed, settled_stream}
-use Rattle.leafd_cli.specs.Keeping.{KeepsCopy, IsNumbered, AllNumbered, CanFollow}
+use Rattle.leafd_cli.specs.Plain.{copied_entry, rows_past, bound_log, fed_rows}
+use Rattle.leafd_cli.specs.Keeping.{IsNumbered, CanFollow}
 use Rattle.leafd_cli.proofs.Joined.{kept-below}
 use Rattle.leafd_cli.proofs.Numbers.{numbered-push}
-use Rattle.leafd_cli.proofs.Settles.{origin_numbered}
 
 -- the rows past a number that are above another one too
 above_first : (n : ℕ) (rows : List Numbered) → Rises (suc n) (seqs rows) → EachRow (λ r. n < r.seq) rows
@@ -40,49 +37,38 @@ follow low from b (r ∷ rows) rise above small =
     ] in
     go (ltb low r.seq) refl
 
-pub can_follow : (low top : ℕ) (o : StreamLog) → top ≤ 2 ^ 63 → IsNumbered top o → CanFollow low (rows_past low (kept (history_of o)))
-can_follow low top o le n =
+pub can_follow : (low : ℕ) (o : StreamLog) → IsNumbered o → CanFollow low (rows_past low (kept (history_of o)))
+can_follow low o n =
     let below = kept-below (history_of o) n.rising in
     let small = EachRow-weaker (λ r. r.seq ≤ last o.entries) (λ r. r.seq < 2 ^ 63) (λ r q. omega (arith, q, n.below)) (kept (history_of o)) below in
     let above = EachRow-weaker (λ r. r.seq ≤ last o.entries) (λ r. low < r.seq → low < r.seq) (λ r q k. k) (kept (history_of o)) below in
     follow low low 0 (kept (history_of o)) (kept-rises (history_of o) n.rising) above small
 
 -- a log that takes rows that may follow stays numbered
-numbered-rows : (top : ℕ) (rows : List Numbered) (s : StreamLog) → IsNumbered top s → CanFollow (last s.entries) rows → EachRow (λ r. r.seq < top) rows → IsNumbered top (record s { entries = s.entries ++ map copied_entry rows })
-numbered-rows top [] s n can each = let P : List Entry → Type 0 = λ es. IsNumbered top (record s { entries = es }) in subst P (sym (append-nil s.entries)) n
-numbered-rows top (r ∷ rows) s n can each =
+numbered-rows : (rows : List Numbered) (s : StreamLog) → IsNumbered s → CanFollow (last s.entries) rows → IsNumbered (record s { entries = s.entries ++ map copied_entry rows })
+numbered-rows [] s n can = let P : List Entry → Type 0 = λ es. IsNumbered (record s { entries = es }) in subst P (sym (append-nil s.entries)) n
+numbered-rows (r ∷ rows) s n can =
     let e : Entry = copied_entry r in
     let t : StreamLog = record s { entries = s.entries ++ e ∷ [] } in
-    let m : IsNumbered top t = numbered-push top s e n (record { above = can.0; below = each.0; same = λ c. refl }) in
+    let m : IsNumbered t = numbered-push s e n (record { above = can.0; below = can.1; same = refl }) in
     let end : last t.entries ≡ r.seq = omega (arith, last-push s.entries e, can.0) in
     let C : ℕ → Type 0 = λ low. CanFollow low rows in
-    let P : List Entry → Type 0 = λ es. IsNumbered top (record s { entries = es }) in
-    subst P (append_assoc s.entries (e ∷ []) (map copied_entry rows)) (numbered-rows top rows t m (subst C (sym end) can.2) each.1)
+    let P : List Entry → Type 0 = λ es. IsNumbered (record s { entries = es }) in
+    subst P (append_assoc s.entries (e ∷ []) (map copied_entry rows)) (numbered-rows rows t m (subst C (sym end) can.2))
 
-bound_numbered : (top : ℕ) (b : Option BoundTo) (s : StreamLog) → 0 < top → IsNumbered top s → IsNumbered top (record s { entries = bound_log b s.entries })
-bound_numbered top None s positive n = numbered-push top s (Bind 0 1 1) n (record { above = tt; below = positive; same = λ c. refl })
-bound_numbered top (Some to) s positive n = n
+bound_numbered : (b : Option BoundTo) (s : StreamLog) → IsNumbered s → IsNumbered (record s { entries = bound_log b s.entries })
+bound_numbered None s n = numbered-push s (Bind 0 1 1) n (record { above = tt; below = omega arith; same = refl })
+bound_numbered (Some to) s n = n
 
 last-bound : (b : Option BoundTo) (s : StreamLog) → last (bound_log b s.entries) ≡ last s.entries
 last-bound None s = omega (arith, last-push s.entries (Bind 0 1 1))
 last-bound (Some to) s = refl
 
-numbered-fed : (top : ℕ) (s o : StreamLog) → IsNumbered top s → IsNumbered top o → top ≤ 2 ^ 63 → IsNumbered top (fed_rows (rows_past (last s.entries) (kept (history_of o))) s)
-numbered-fed top s o n m le =
+pub numbered-fed : (s o : StreamLog) → IsNumbered s → IsNumbered o → IsNumbered (fed_rows (rows_past (last s.entries) (kept (history_of o))) s)
+numbered-fed s o n m =
     let b = bound 0 s.entries in
     let t : StreamLog = record s { entries = bound_log b s.entries } in
     let low : last t.entries ≡ last s.entries = last-bound b s in
     let rows = rows_past (last s.entries) (kept (history_of o)) in
     let C : ℕ → Type 0 = λ x. CanFollow x rows in
-    let each = EachRow-filter (λ r. r.seq < top) _ (kept (history_of o)) (EachRow-weaker (λ r. r.seq ≤ last o.entries) (λ r. r.seq < top) (λ r q. omega (arith, q, m.below)) (kept (history_of o)) (kept-below (history_of o) m.rising)) in
-    numbered-rows top rows t (bound_numbered top b s (omega (arith, n.below)) n) (subst C (sym low) (can_follow (last s.entries) top o le m)) each
-
-settled_kind : (top : ℕ) (all : List StreamLog) (s : StreamLog) (copies : Copies) → AllNumbered top all → KeepsCopy all s copies → top ≤ 2 ^ 63 → IsNumbered top s → IsNumbered top (fed (missing_kind all s copies) s)
-settled_kind top all s Nothing numbers keeps le n = n
-settled_kind top all s (Mirror want) numbers keeps le n =
-    let P : Option StreamLog → Type 0 = λ x. IsNumbered top (fed (missing_of x s) s) in
-    subst P (sym keeps.1) (numbered-fed top s keeps.0 n (origin_numbered top want.node want.stream all keeps.0 numbers keeps.1) le)
-settled_kind top all s (Sources wants) numbers keeps le n = absurd keeps
-
-pub numbered_settled : (top : ℕ) (all : List StreamLog) (s : StreamLog) → AllNumbered top all → KeepsCopy all s s.config.copies → top ≤ 2 ^ 63 → IsNumbered top s → IsNumbered top (settled_stream all s)
-numbered_settled top all s numbers keeps le n = settled_kind top all s s.config.copies numbers keeps le n
+    numbered-rows rows t (bound_numbered b s n) (subst C (sym low) (can_follow (last s.entries) o m))

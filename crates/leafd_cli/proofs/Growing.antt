@@ -1,5 +1,5 @@
 -- A state that stands for its log stands for it with one entry more, and entries that fit a log.
-use Rattle.std.proofs.Common.{◌≡◌, ℕ, zero, suc, ◌+◌, ◌^◌, ◌<◌, ◌≤◌, List, [], ◌∷◌, ◌++◌, length, map, take, drop, get_or, None, Some, refl, sym, ap, subst, ◌∙◌, arith, append_assoc, add-one}
+use Rattle.std.proofs.Common.{◌≡◌, ℕ, zero, suc, ◌+◌, ◌^◌, ◌<◌, List, [], ◌∷◌, ◌++◌, length, map, take, drop, get_or, None, Some, refl, sym, ap, subst, ◌∙◌, arith, append_assoc, add-one, take-append-drop}
 use Rattle.std.proofs.Math.Seq.{drop-cons}
 use Rattle.std.proofs.lemmas.List.{take_more, map-append, get_or_default, length-set}
 use Rattle.nats_text.specs.declared.message.Message.{Message}
@@ -7,17 +7,18 @@ use Rattle.stream_fold.specs.declared.config.Copies.{Copies}
 use Rattle.stream_fold.specs.declared.config.Copies.TheVariants.{Nothing, Mirror, Sources}
 use Rattle.stream_fold.specs.declared.entry.Entry.TheVariants.{Put, Bind}
 use Rattle.stream_fold.specs.declared.entry.Numbered.{Numbered}
-use Rattle.stream_fold.specs.Histories.{last, stands, kept}
+use Rattle.stream_fold.specs.Histories.{last, kept}
 use Rattle.stream_fold.specs.Held.{index_count}
 use Rattle.stream_fold.proofs.Folds.{last-push}
-use Rattle.leafd_cli.specs.Logs.{StreamLog, history_of}
+use Rattle.leafd_cli.specs.Logs.{StreamLog, history_of, limits_of}
+use Rattle.leafd_cli.specs.Legal.{origin_of}
 use Rattle.leafd_cli.specs.Plain.{copied_entry, missing_of, missing_kind, rows_past, no_stream, settle_at, settled_upto}
-use Rattle.leafd_cli.specs.Keeping.{KeepsCopy, IsNumbered, AllNumbered, IsKept, CanFollow}
+use Rattle.leafd_cli.specs.Keeping.{KeepsCopy, AllNumbered, IsKept, CanFollow}
 use Rattle.leafd_cli.proofs.Joined.{not_some}
 use Rattle.leafd_cli.proofs.Numbers.{AllNumbered-at}
-use Rattle.leafd_cli.proofs.Settles.{AllKeep-at, origin_numbered}
+use Rattle.leafd_cli.proofs.Steps.{AllKeep-at, origin_numbered, origin_of-append}
 use Rattle.leafd_cli.proofs.Following.{can_follow}
-use Rattle.leafd_cli.proofs.Whole.{fed_upto}
+use Rattle.leafd_cli.proofs.Settles.{fed_upto}
 
 -- the others may follow the row
 pub copied_on : (s : StreamLog) (row : Numbered) (rows : List Numbered) → CanFollow (last s.entries) (row ∷ rows) → CanFollow (last (s.entries ++ copied_entry row ∷ [])) rows
@@ -34,13 +35,14 @@ bound_on s rows can =
     subst C (sym end) can
 
 -- what a stream misses may follow
-missing_follows : (top : ℕ) (streams : List StreamLog) (s : StreamLog) (copies : Copies) (rows : List Numbered) → top ≤ 2 ^ 63 → AllNumbered top streams → KeepsCopy streams s copies → missing_kind streams s copies ≡ Some rows → CanFollow (last s.entries) rows
-missing_follows top streams s Nothing rows le n k e = not_some rows e
-missing_follows top streams s (Mirror want) rows le n k e =
+missing_follows : (before after : List StreamLog) (s : StreamLog) (copies : Copies) (rows : List Numbered) → AllNumbered (before ++ after) → KeepsCopy before s copies → missing_kind (before ++ after) s copies ≡ Some rows → CanFollow (last s.entries) rows
+missing_follows before after s Nothing rows n k e = not_some rows e
+missing_follows before after s (Mirror want) rows n k e =
+    let found : origin_of want (before ++ after) ≡ Some k.0 = origin_of-append want before after k.0 k.1 in
     let P : List Numbered → Type 0 = λ rs. CanFollow (last s.entries) rs in
-    let same : rows_past (last s.entries) (kept (history_of k.0)) ≡ rows = let q : Some (rows_past (last s.entries) (kept (history_of k.0))) ≡ Some rows = ap (λ o. missing_of o s) (sym k.1) ∙ e in cc in
-    subst P same (can_follow (last s.entries) top k.0 le (origin_numbered top want.node want.stream streams k.0 n k.1))
-missing_follows top streams s (Sources wants) rows le n k e = absurd k
+    let same : rows_past (last s.entries) (kept (history_of k.0)) ≡ rows = let q : Some (rows_past (last s.entries) (kept (history_of k.0))) ≡ Some rows = ap (λ o. missing_of o s) (sym found) ∙ e in cc in
+    subst P same (can_follow (last s.entries) k.0 (origin_numbered want.node want.stream (before ++ after) k.0 n found))
+missing_follows before after s (Sources wants) rows n k e = absurd k
 
 -- what misses something is a mirror
 missing_mirror : (streams : List StreamLog) (s : StreamLog) (copies : Copies) (rows : List Numbered) → missing_kind streams s copies ≡ Some rows → 0 < index_count copies
@@ -48,21 +50,19 @@ missing_mirror streams s Nothing rows e = not_some rows e
 missing_mirror streams s (Mirror want) rows e = omega arith
 missing_mirror streams s (Sources wants) rows e = not_some rows e
 
-pub feeds_follow : (top : ℕ) (streams : List StreamLog) (k : ℕ) (rows : List Numbered) → top ≤ 2 ^ 63 → k < length streams → IsKept top streams → missing_kind streams (get_or streams k no_stream) (get_or streams k no_stream).config.copies ≡ Some rows → CanFollow (last (get_or streams k no_stream).entries) rows
-feeds_follow top streams k rows le h kept e = missing_follows top streams (get_or streams k no_stream) (get_or streams k no_stream).config.copies rows le kept.numbers (AllKeep-at streams streams k no_stream h kept.copies) e
+pub feeds_follow : (streams : List StreamLog) (k : ℕ) (rows : List Numbered) → k < length streams → IsKept streams → missing_kind streams (get_or streams k no_stream) (get_or streams k no_stream).config.copies ≡ Some rows → CanFollow (last (get_or streams k no_stream).entries) rows
+feeds_follow streams k rows h kept e =
+    let s = get_or streams k no_stream in
+    let whole : take k streams ++ drop k streams ≡ streams = take-append-drop k streams in
+    let A : List StreamLog → Type 0 = λ x. AllNumbered x in
+    let M : List StreamLog → Type 0 = λ x. missing_kind x s s.config.copies ≡ Some rows in
+    missing_follows (take k streams) (drop k streams) s s.config.copies rows (subst A (sym whole) kept.numbers) (AllKeep-at [] streams k no_stream h kept.copies) (subst M (sym whole) e)
 
-pub feeds_mirror : (top : ℕ) (streams : List StreamLog) (k : ℕ) (rows : List Numbered) → k < length streams → IsKept top streams → missing_kind streams (get_or streams k no_stream) (get_or streams k no_stream).config.copies ≡ Some rows → 0 < index_count (stands (history_of (get_or streams k no_stream))).limits.copies
-feeds_mirror top streams k rows h kept e =
+pub feeds_mirror : (streams : List StreamLog) (k : ℕ) (rows : List Numbered) → k < length streams → IsKept streams → missing_kind streams (get_or streams k no_stream) (get_or streams k no_stream).config.copies ≡ Some rows → 0 < index_count (limits_of (get_or streams k no_stream)).copies
+feeds_mirror streams k rows h kept e =
     let s = get_or streams k no_stream in
     let P : Copies → Type 0 = λ c. 0 < index_count c in
-    subst P (sym (AllNumbered-at top streams k no_stream h kept.numbers).copies) (missing_mirror streams s s.config.copies rows e)
-
--- the entry of a publish fits the stream at a place
-pub publish_fits : (top : ℕ) (streams : List StreamLog) (k : ℕ) (s : StreamLog) (number : ℕ) → top + 1 ≤ 2 ^ 63 → k < length streams → IsKept top streams → s ≡ get_or streams k s → number ≡ last s.entries → (last s.entries < number + 1) × (number + 1 < 2 ^ 63) × Unit {0}
-publish_fits top streams k s number le h kept at e =
-    let P : StreamLog → Type 0 = λ x. IsNumbered top x in
-    let n : IsNumbered top s = subst P (sym at) (AllNumbered-at top streams k s h kept.numbers) in
-    (omega (arith, e), omega (arith, e, n.below), tt)
+    subst P (sym (AllNumbered-at streams k no_stream h kept.numbers).copies) (missing_mirror streams s s.config.copies rows e)
 
 -- one row more was added
 pub record AddsRow (first t : StreamLog) (rows : List Numbered) (i : ℕ) : Type 0 where
@@ -97,23 +97,23 @@ pub stream_is : (streams seen : List StreamLog) (k : ℕ) (s : StreamLog) → k 
 stream_is streams seen k s h e at = at ∙ (get_or_default streams k s no_stream h ∙ ap (λ xs. get_or xs k no_stream) (sym e))
 
 -- one stream more has taken what it missed
-pub record SettlesMore (top k : ℕ) (first new : List StreamLog) (end : ℕ) : Type 0 where
+pub record SettlesMore (k : ℕ) (first new : List StreamLog) (end : ℕ) : Type 0 where
   pub streams : new ≡ settled_upto (k + 1) first
   pub many : length new ≡ end
-  pub kept : IsKept top new
+  pub kept : IsKept new
 
 length-settled : (k : ℕ) (first : List StreamLog) → length (settled_upto k first) ≡ length first
 length-settled zero first = refl
 length-settled (suc k) first = length-set (settled_upto k first) k _ ∙ length-settled k first
 
-pub settles_more : (top k : ℕ) (first now new : List StreamLog) (end : ℕ) → top ≤ 2 ^ 63 → k < end → IsKept top first → now ≡ settled_upto k first → length now ≡ end → new ≡ settle_at k now → SettlesMore top k first new end
-settles_more top k first now new end le h kept so long step =
+pub settles_more : (k : ℕ) (first now new : List StreamLog) (end : ℕ) → k < end → IsKept first → now ≡ settled_upto k first → length now ≡ end → new ≡ settle_at k now → SettlesMore k first new end
+settles_more k first now new end h kept so long step =
     let is : new ≡ settled_upto (suc k) first = step ∙ ap (settle_at k) so in
     let many : length first ≡ end = sym (length-settled k first) ∙ (ap length (sym so) ∙ long) in
-    let f = fed_upto top (suc k) first le (omega (arith, many, h)) kept in
-    let P : List StreamLog → Type 0 = λ x. IsKept top x in
+    let f = fed_upto (suc k) first (omega (arith, many, h)) kept in
+    let P : List StreamLog → Type 0 = λ x. IsKept x in
     record {
       streams = is ∙ ap (λ n. settled_upto n first) (sym (add-one k));
       many = ap length is ∙ (length-settled (suc k) first ∙ many);
-      kept = subst P (sym is) (record { copies = f.right; numbers = f.numbers });
+      kept = subst P (sym is) f.kept;
     }

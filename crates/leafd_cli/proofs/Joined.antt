@@ -6,7 +6,7 @@ use Rattle.nats_text.specs.declared.message.Message.{Message}
 use Rattle.stream_fold.specs.declared.entry.Entry.{Entry}
 use Rattle.stream_fold.specs.declared.entry.Entry.TheVariants.{Put, Del, Purge, Expire, Bind, Limits}
 use Rattle.stream_fold.specs.declared.entry.Numbered.{Numbered}
-use Rattle.stream_fold.specs.declared.state.Binding.{Binding}
+use Rattle.stream_fold.specs.declared.parts.Binding.{Binding}
 use Rattle.stream_fold.specs.Histories.{History, either, put, put_by, last, number_of, kept, message_at, NumbersRise}
 use Rattle.stream_fold.specs.Copying.{bindings, binding_at}
 use Rattle.stream_fold.proofs.Growth.{put-below}

@@ -1,14 +1,14 @@
 mod Books
 mod Cuts
 mod Feeds
-mod Finding
+mod Placing
 mod Following
 mod Fronts
 mod Growing
 mod Joined
+mod Leading
 mod Numbers
 mod Past
-mod Publishes
 mod Settles
 mod Steps
-mod Whole
+mod Work

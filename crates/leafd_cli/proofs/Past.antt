@@ -7,10 +7,10 @@ use Rattle.stream_fold.specs.declared.entry.Numbered.{Numbered}
 use Rattle.stream_fold.specs.Histories.{kept}
 use Rattle.stream_fold.proofs.KeptRows.{Rises, seqs, kept-rises}
 use Rattle.leafd_cli.specs.Logs.{StreamLog, history_of}
-use Rattle.leafd_cli.specs.Copies.{origin_of}
+use Rattle.leafd_cli.specs.Legal.{origin_of}
 use Rattle.leafd_cli.specs.Plain.{rows_past}
 use Rattle.leafd_cli.specs.Keeping.{AllNumbered}
-use Rattle.leafd_cli.proofs.Settles.{origin_numbered}
+use Rattle.leafd_cli.proofs.Steps.{origin_numbered}
 
 rises_at : (low : ℕ) (rows : List Numbered) (k : ℕ) (d : Numbered) → Rises low (seqs rows) → k < length rows → low ≤ (get_or rows k d).seq
 rises_at low [] k d rise h = absurd (omega (arith, h))
@@ -25,8 +25,8 @@ never_falls low (r ∷ rows) rise (suc i) zero d le h = absurd (omega (arith, le
 never_falls low (r ∷ rows) rise (suc i) (suc j) d le h = never_falls (suc r.seq) rows rise.1 i j d (omega (arith, le)) (omega (arith, h))
 
 -- the numbers of what an origin keeps never fall
-pub origin_rows : (top : ℕ) (want : Origin) (streams : List StreamLog) (o : StreamLog) → AllNumbered top streams → origin_of want streams ≡ Some o → IsNonDecreasingBy (λ (r : Numbered). r.seq) (kept (history_of o))
-origin_rows top want streams o n e = never_falls 0 (kept (history_of o)) (kept-rises (history_of o) (origin_numbered top want.node want.stream streams o n e).rising)
+pub origin_rows : (want : Origin) (streams : List StreamLog) (o : StreamLog) → AllNumbered streams → origin_of want streams ≡ Some o → IsNonDecreasingBy (λ (r : Numbered). r.seq) (kept (history_of o))
+origin_rows want streams o n e = never_falls 0 (kept (history_of o)) (kept-rises (history_of o) (origin_numbered want.node want.stream streams o n e).rising)
 
 -- the rows from a place on are those past a number, where those before it are not past it and those from it on are
 pub past_from : (number : ℕ) (rows : List Numbered) (i : ℕ) → ((k : ℕ) (d : Numbered) → k < i → leb (get_or rows k d).seq number ≡ true) → ((k : ℕ) (d : Numbered) → i ≤ k → k < length rows → leb (get_or rows k d).seq number ≡ false) → drop i rows ≡ rows_past number rows

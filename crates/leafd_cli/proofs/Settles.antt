@@ -1,6 +1,6 @@
 -- What a settle does to the streams.
-use Rattle.std.proofs.Common.{◌≡◌, ℕ, ◌<◌, max, List, [], ◌∷◌, ◌++◌, length, map, set, get_or, Bool, true, false, cond, Option, None, Some, zero, suc, refl, sym, ap, subst, ◌∙◌, arith}
-use Rattle.std.proofs.lemmas.List.{append-nil, append_assoc}
+use Rattle.std.proofs.Common.{◌≡◌, ℕ, ◌<◌, ◌≤◌, max, List, [], ◌∷◌, ◌++◌, length, map, take, drop, set, get_or, Option, None, Some, zero, suc, refl, sym, ap, subst, add-one, ◌∙◌, arith, take-append-drop}
+use Rattle.std.proofs.lemmas.List.{append-nil, append_assoc, length-set, take_all, take_more_set}
 use Rattle.nats_text.specs.declared.message.Start.{Start}
 use Rattle.nats_text.specs.declared.message.Start.TheVariants.{Seq}
 use Rattle.nats_text.specs.declared.origin.Origin.{Origin}
@@ -13,24 +13,28 @@ use Rattle.stream_fold.specs.declared.config.Copies.TheVariants.{Nothing, Mirror
 use Rattle.stream_fold.specs.Histories.{History, last, kept, NumbersRise}
 use Rattle.stream_fold.specs.Copying.{MirrorHolds, bindings, binding_at, bound, front}
 use Rattle.stream_fold.proofs.Folds.{bindings-append}
-use Rattle.leafd_cli.specs.Logs.{StreamLog, history_of, is_at, stream_at}
-use Rattle.leafd_cli.specs.Copies.{CopyHolds, IsThrough, HasAll, origin_of, stream_of}
-use Rattle.leafd_cli.specs.Operations.{AreCopying}
-use Rattle.leafd_cli.specs.Plain.{copied_entry, rows_past, missing_of, missing_kind, fed_rows, fed}
-use Rattle.leafd_cli.specs.Keeping.{KeepsCopy, AllKeep, IsNumbered, AllNumbered}
-use Rattle.leafd_cli.proofs.Joined.{not_some, binding_at-append, bindings-rows, no_last, HasAll-mono, HasAll-taken}
+use Rattle.leafd_cli.specs.Logs.{StreamLog, history_of}
+use Rattle.leafd_cli.specs.Legal.{origin_of}
+use Rattle.leafd_cli.specs.Copies.{CopyHolds, IsRightCopy, AreRight, IsThrough, AreThrough, HasAll}
+use Rattle.leafd_cli.specs.Operations.{AreCopying, GrowsByCopying, AllGrow}
+use Rattle.leafd_cli.specs.Plain.{copied_entry, rows_past, missing_of, missing_kind, fed_rows, fed, settled_stream, settle_at, settled_upto, no_stream}
+use Rattle.leafd_cli.specs.Keeping.{KeepsCopy, AllKeep, IsNumbered, AllNumbered, IsKept}
+use Rattle.leafd_cli.proofs.Joined.{binding_at-append, bindings-rows, no_last, HasAll-mono, HasAll-taken}
 use Rattle.leafd_cli.proofs.Feeds.{fed_log, last-fed, MirrorHolds-fed}
+use Rattle.leafd_cli.proofs.Following.{numbered-fed}
+use Rattle.leafd_cli.proofs.Numbers.{AllNumbered-at, AllNumbered-set}
+use Rattle.leafd_cli.proofs.Steps.{Steps, keeps_steps, all_step-set, AllKeep-at, origin_of-append, origin_numbered}
 
--- a feed leaves where a stream is and what it is, and leaves a stream that is no copy
-pub record Feeds (all : List StreamLog) (s t : StreamLog) (copies : Copies) : Type 0 where
-  pub right : KeepsCopy all t copies
-  pub through : IsThrough all t copies
+-- a stream that was fed what it missed of the streams before it
+pub record Feeds (before : List StreamLog) (s t : StreamLog) (copies : Copies) : Type 0 where
+  pub right : KeepsCopy before t copies
+  pub through : IsThrough before t copies
   pub node : t.node ≡ s.node
   pub config : t.config ≡ s.config
   pub more : List Entry
   pub entries : t.entries ≡ s.entries ++ more
   pub copying : AreCopying copies more
-  pub plain : copies ≡ Nothing → t ≡ s
+  pub numbered : IsNumbered t
 
 bound-rows : (copy : List Entry) (rows : List Numbered) → bound 0 (copy ++ map copied_entry rows) ≡ bound 0 copy
 bound-rows copy rows = ap (λ bs. binding_at 0 bs) (bindings-append copy (map copied_entry rows) ∙ (ap (λ bs. bindings copy ++ bs) (bindings-rows rows) ∙ append-nil (bindings copy)))
@@ -73,112 +77,162 @@ copying_more : (b : Option BoundTo) (want : Origin) (rows : List Numbered) → A
 copying_more None want rows = (tt, copying_rows want rows)
 copying_more (Some to) want rows = copying_rows want rows
 
-feeds_rows : (all : List StreamLog) (s o : StreamLog) (want : Origin) → origin_of want all ≡ Some o → o.config.copies ≡ Nothing → want.start ≡ Seq 1 → NumbersRise o.entries → CopyHolds (bound 0 s.entries) want.start (history_of o) s.entries → Feeds all s (fed_rows (rows_past (last s.entries) (kept (history_of o))) s) (Mirror want)
-feeds_rows all s o want found plain first rise holds =
+feeds_rows : (before : List StreamLog) (s o : StreamLog) (want : Origin) → origin_of want before ≡ Some o → want.start ≡ Seq 1 → IsNumbered s → IsNumbered o → CopyHolds (bound 0 s.entries) want.start (history_of o) s.entries → Feeds before s (fed_rows (rows_past (last s.entries) (kept (history_of o))) s) (Mirror want)
+feeds_rows before s o want found first n m holds =
     let b = bound 0 s.entries in
     let rows = rows_past (last s.entries) (kept (history_of o)) in
     let log : List Entry = fed_log b s.entries rows in
-    let h : HoldsFed b want.start (history_of o) s.entries = holds_from b want.start (history_of o) s.entries refl first rise holds in
+    let h : HoldsFed b want.start (history_of o) s.entries = holds_from b want.start (history_of o) s.entries refl first m.rising holds in
     let end = last-fed b s.entries rows in
     let all_taken : HasAll (last log) (kept (history_of o)) = HasAll-taken (last log) (last s.entries) (kept (history_of o)) (omega (arith, end)) (omega (arith, end)) in
     let P : Option BoundTo → Type 0 = λ x. CopyHolds x want.start (history_of o) log in
     record {
-      right = (o, found, plain, first, subst P (sym h.1) h.2);
+      right = (o, found, first, subst P (sym h.1) h.2);
       through = (o, found, h.0, h.1, HasAll-mono (last log) (front want.start log) (kept (history_of o)) (omega arith) all_taken);
       node = refl;
       config = refl;
       more = more_log b rows;
       entries = fed_log_is b s.entries rows;
       copying = copying_more b want rows;
-      plain = λ e. absurd (let wrong : Mirror want ≡ Nothing = e in cc);
+      numbered = numbered-fed s o n m;
     }
 
--- a stream that is found is numbered like all
-pub found_numbered : (bound : ℕ) (node name : List ℕ) (streams : List StreamLog) (o : StreamLog) → AllNumbered bound streams → stream_at node name streams ≡ Some o → IsNumbered bound o
-found_numbered bound node name [] o n e = not_some o e
-found_numbered bound node name (s ∷ streams) o n e =
-    let P : Bool → Type 0 = λ b. cond b (Some s) (stream_at node name streams) ≡ Some o → IsNumbered bound o in
-    let go : (b : Bool) → P b = λ b. elim b as P [
-      | true ↦ (λ f. let so : s ≡ o = cc in let Q : StreamLog → Type 0 = λ x. IsNumbered bound x in subst Q so n.0)
-      | false ↦ (λ f. found_numbered bound node name streams o n.1 f)
-    ] in
-    go (is_at node name s) e
+-- the stream at a place, fed with what it misses of all streams: its origin was made before it
+feeds : (before after : List StreamLog) (s : StreamLog) (copies : Copies) → AllNumbered (before ++ after) → IsNumbered s → KeepsCopy before s copies → Feeds before s (fed (missing_kind (before ++ after) s copies) s) copies
+feeds before after s Nothing all n k = record { right = tt; through = tt; node = refl; config = refl; more = []; entries = sym (append-nil s.entries); copying = tt; numbered = n }
+feeds before after s (Mirror want) all n k =
+    let found : origin_of want (before ++ after) ≡ Some k.0 = origin_of-append want before after k.0 k.1 in
+    let m : IsNumbered k.0 = origin_numbered want.node want.stream (before ++ after) k.0 all found in
+    let P : Option StreamLog → Type 0 = λ x. Feeds before s (fed (missing_of x s) s) (Mirror want) in
+    subst P (sym found) (feeds_rows before s k.0 want k.1 k.2 n m k.3)
+feeds before after s (Sources wants) all n k = absurd k
 
-pub origin_numbered : (bound : ℕ) (node : Option (List ℕ)) (name : List ℕ) (streams : List StreamLog) (o : StreamLog) → AllNumbered bound streams → stream_of node name streams ≡ Some o → IsNumbered bound o
-origin_numbered bound None name streams o n e = not_some o e
-origin_numbered bound (Some node) name streams o n e = found_numbered bound node name streams o n e
+pub feeds_at : (streams : List StreamLog) (k : ℕ) (s : StreamLog) → AllNumbered streams → IsNumbered s → KeepsCopy (take k streams) s s.config.copies → Feeds (take k streams) s (settled_stream streams s) s.config.copies
+feeds_at streams k s all n keeps =
+    let whole : take k streams ++ drop k streams ≡ streams = take-append-drop k streams in
+    let A : List StreamLog → Type 0 = λ x. AllNumbered x in
+    let P : List StreamLog → Type 0 = λ x. Feeds (take k streams) s (settled_stream x s) s.config.copies in
+    subst P whole (feeds (take k streams) (drop k streams) s s.config.copies (subst A (sym whole) all) n keeps)
 
--- any stream, fed with what it misses
-pub feeds : (bound : ℕ) (all : List StreamLog) (s : StreamLog) (copies : Copies) → AllNumbered bound all → KeepsCopy all s copies → Feeds all s (fed (missing_kind all s copies) s) copies
-feeds bound all s Nothing n right = record { right = tt; through = tt; node = refl; config = refl; more = []; entries = sym (append-nil s.entries); copying = tt; plain = λ e. refl }
-feeds bound all s (Mirror want) n right =
-    let P : Option StreamLog → Type 0 = λ x. Feeds all s (fed (missing_of x s) s) (Mirror want) in
-    subst P (sym right.1) (feeds_rows all s right.0 want right.1 right.2 right.3 (origin_numbered bound want.node want.stream all right.0 n right.1).rising right.4)
-feeds bound all s (Sources wants) n right = absurd right
+-- ---- each of some streams is through, over those before it
 
--- two lists of streams, one by one
-pub record Stays (s t : StreamLog) : Type 0 where
-  pub node : t.node ≡ s.node
-  pub config : t.config ≡ s.config
-  pub plain : s.config.copies ≡ Nothing → t ≡ s
+abbrev pub ThroughFrom : List StreamLog → List StreamLog → Type 0
+ThroughFrom before [] = Unit {0}
+ThroughFrom before (s ∷ streams) = IsThrough before s s.config.copies × ThroughFrom (before ++ s ∷ []) streams
 
-abbrev pub AllStay : List StreamLog → List StreamLog → Type 0
-AllStay [] [] = Unit {0}
-AllStay [] (t ∷ new) = ⊥
-AllStay (s ∷ old) [] = ⊥
-AllStay (s ∷ old) (t ∷ new) = Stays s t × AllStay old new
+through-push : (before streams : List StreamLog) (t : StreamLog) → ThroughFrom before streams → IsThrough (before ++ streams) t t.config.copies → ThroughFrom before (streams ++ t ∷ [])
+through-push before [] t r h = let P : List StreamLog → Type 0 = λ b. IsThrough b t t.config.copies in (subst P (append-nil before) h, tt)
+through-push before (s ∷ streams) t r h =
+    let P : List StreamLog → Type 0 = λ b. IsThrough b t t.config.copies in
+    (r.0, through-push (before ++ s ∷ []) streams t r.1 (subst P (sym (append_assoc before (s ∷ []) streams)) h))
 
-pub stay : (s : StreamLog) → Stays s s
-stay s = record { node = refl; config = refl; plain = λ e. refl }
+through_more : (before after : List StreamLog) (s : StreamLog) (copies : Copies) → IsThrough before s copies → IsThrough (before ++ after) s copies
+through_more before after s Nothing r = tt
+through_more before after s (Mirror want) r = (r.0, origin_of-append want before after r.0 r.1, r.2, r.3, r.4)
+through_more before after s (Sources wants) r = r
 
-pub all_stay : (streams : List StreamLog) → AllStay streams streams
-all_stay [] = tt
-all_stay (s ∷ streams) = (stay s, all_stay streams)
+all_through : (before streams : List StreamLog) → ThroughFrom before streams → AreThrough (before ++ streams) streams
+all_through before [] r = tt
+all_through before (s ∷ streams) r =
+    let P : List StreamLog → Type 0 = λ x. AreThrough x streams in
+    (through_more before (s ∷ streams) s s.config.copies r.0, subst P (append_assoc before (s ∷ []) streams) (all_through (before ++ s ∷ []) streams r.1))
 
-pub AllStay-set : (streams : List StreamLog) (k : ℕ) (d t : StreamLog) → k < length streams → Stays (get_or streams k d) t → AllStay streams (set streams k t)
-AllStay-set [] k d t h s = absurd (omega (arith, h))
-AllStay-set (x ∷ streams) zero d t h s = (s, all_stay streams)
-AllStay-set (x ∷ streams) (suc k) d t h s = (stay x, AllStay-set streams k d t (omega (arith, h)) s)
+right_more : (before after : List StreamLog) (s : StreamLog) (copies : Copies) → KeepsCopy before s copies → IsRightCopy (before ++ after) s copies
+right_more before after s Nothing k = tt
+right_more before after s (Mirror want) k = (k.0, origin_of-append want before after k.0 k.1, k.3)
+right_more before after s (Sources wants) k = absurd k
 
-at_same : (node name : List ℕ) (s t : StreamLog) → t.node ≡ s.node → t.config ≡ s.config → is_at node name t ≡ is_at node name s
-at_same node name s t e f = rw (e, f) refl
+all_right : (before streams : List StreamLog) → AllKeep before streams → AreRight (before ++ streams) streams
+all_right before [] k = tt
+all_right before (s ∷ streams) k =
+    let P : List StreamLog → Type 0 = λ x. AreRight x streams in
+    (right_more before (s ∷ streams) s s.config.copies k.0, subst P (append_assoc before (s ∷ []) streams) (all_right (before ++ s ∷ []) streams k.1))
 
-abbrev FoundStays : List ℕ → List ℕ → List StreamLog → StreamLog → Type 0
-FoundStays node name new o = (o' : StreamLog) × (stream_at node name new ≡ Some o') × Stays o o'
+-- what the world keeps of its copies is more than that they are right
+pub AreRight-kept : (streams : List StreamLog) → IsKept streams → AreRight streams streams
+AreRight-kept streams k = all_right [] streams k.copies
 
-pub found_stays : (node name : List ℕ) (old new : List StreamLog) (o : StreamLog) → AllStay old new → stream_at node name old ≡ Some o → FoundStays node name new o
-found_stays node name [] [] o stays e = not_some o e
-found_stays node name [] (t ∷ new) o stays e = absurd stays
-found_stays node name (s ∷ old) [] o stays e = absurd stays
-found_stays node name (s ∷ old) (t ∷ new) o stays e =
-    let same = at_same node name s t stays.0.node stays.0.config in
-    let P : Bool → Type 0 = λ b. is_at node name s ≡ b → cond b (Some s) (stream_at node name old) ≡ Some o → FoundStays node name (t ∷ new) o in
-    let go : (b : Bool) → P b = λ b. elim b as P [
-      | true ↦ (λ a f. let so : s ≡ o = cc in let Q : StreamLog → Type 0 = λ x. Stays x t in (t, rw (same, a) refl, subst Q so stays.0))
-      | false ↦ (λ a f. let r = found_stays node name old new o stays.1 f in (r.0, rw (same, a) r.1, r.2))
-    ] in
-    go (is_at node name s) refl e
+-- ---- logs that grow by copying
 
-pub origin_stays : (node : Option (List ℕ)) (name : List ℕ) (old new : List StreamLog) (o : StreamLog) → AllStay old new → stream_of node name old ≡ Some o → o.config.copies ≡ Nothing → stream_of node name new ≡ Some o
-origin_stays None name old new o stays e plain = not_some o e
-origin_stays (Some node) name old new o stays e plain =
-    let r = found_stays node name old new o stays e in r.1 ∙ ap (λ x. Some x) (r.2.plain plain)
+AreCopying-append : (copies : Copies) (xs ys : List Entry) → AreCopying copies xs → AreCopying copies ys → AreCopying copies (xs ++ ys)
+AreCopying-append copies [] ys p q = q
+AreCopying-append copies (x ∷ xs) ys p q = (p.0, AreCopying-append copies xs ys p.1 q)
 
-pub right_stays : (old new : List StreamLog) (s : StreamLog) (copies : Copies) → AllStay old new → KeepsCopy old s copies → KeepsCopy new s copies
-right_stays old new s Nothing stays r = tt
-right_stays old new s (Mirror want) stays r = (r.0, origin_stays want.node want.stream old new r.0 stays r.1 r.2, r.2, r.3, r.4)
-right_stays old new s (Sources wants) stays r = r
+grows_not : (s : StreamLog) → GrowsByCopying s s
+grows_not s = record { node = refl; config = refl; more = []; entries = sym (append-nil s.entries); copying = tt }
 
-pub AllKeep-stays : (old new streams : List StreamLog) → AllStay old new → AllKeep old streams → AllKeep new streams
-AllKeep-stays old new [] stays r = tt
-AllKeep-stays old new (s ∷ streams) stays r = (right_stays old new s s.config.copies stays r.0, AllKeep-stays old new streams stays r.1)
+grows_more : (a b c : StreamLog) → GrowsByCopying a b → GrowsByCopying b c → GrowsByCopying a c
+grows_more a b c p q =
+    let P : Copies → Type 0 = λ x. AreCopying x q.more in
+    record {
+      node = q.node ∙ p.node;
+      config = q.config ∙ p.config;
+      more = p.more ++ q.more;
+      entries = q.entries ∙ (ap (λ es. es ++ q.more) p.entries ∙ append_assoc a.entries p.more q.more);
+      copying = AreCopying-append a.config.copies p.more q.more p.copying (subst P (ap (λ x. x.copies) p.config) q.copying);
+    }
 
-pub AllKeep-set : (all streams : List StreamLog) (k : ℕ) (t : StreamLog) → KeepsCopy all t t.config.copies → AllKeep all streams → AllKeep all (set streams k t)
-AllKeep-set all [] k t r rs = tt
-AllKeep-set all (s ∷ streams) zero t r rs = (r, rs.1)
-AllKeep-set all (s ∷ streams) (suc k) t r rs = (rs.0, AllKeep-set all streams k t r rs.1)
+pub all_grow_not : (streams : List StreamLog) → AllGrow streams streams
+all_grow_not [] = tt
+all_grow_not (s ∷ streams) = (grows_not s, all_grow_not streams)
 
-pub AllKeep-at : (all streams : List StreamLog) (k : ℕ) (d : StreamLog) → k < length streams → AllKeep all streams → KeepsCopy all (get_or streams k d) (get_or streams k d).config.copies
-AllKeep-at all [] k d h rs = absurd (omega (arith, h))
-AllKeep-at all (s ∷ streams) zero d h rs = rs.0
-AllKeep-at all (s ∷ streams) (suc k) d h rs = AllKeep-at all streams k d (omega (arith, h)) rs.1
+all_grow_more : (a b c : List StreamLog) → AllGrow a b → AllGrow b c → AllGrow a c
+all_grow_more [] [] [] p q = tt
+all_grow_more [] [] (z ∷ c) p q = absurd q
+all_grow_more [] (y ∷ b) c p q = absurd p
+all_grow_more (x ∷ a) [] c p q = absurd p
+all_grow_more (x ∷ a) (y ∷ b) [] p q = absurd q
+all_grow_more (x ∷ a) (y ∷ b) (z ∷ c) p q = (grows_more x y z p.0 q.0, all_grow_more a b c p.1 q.1)
+
+all_grow-set : (streams : List StreamLog) (k : ℕ) (d t : StreamLog) → k < length streams → GrowsByCopying (get_or streams k d) t → AllGrow streams (set streams k t)
+all_grow-set [] k d t h g = absurd (omega (arith, h))
+all_grow-set (x ∷ streams) zero d t h g = (g, all_grow_not streams)
+all_grow-set (x ∷ streams) (suc k) d t h g = (grows_not x, all_grow-set streams k d t (omega (arith, h)) g)
+
+-- ---- the streams after the first ones were fed
+
+pub record FedUpto (k : ℕ) (first streams : List StreamLog) : Type 0 where
+  pub grown : AllGrow first streams
+  pub kept : IsKept streams
+  pub through : ThroughFrom [] (take k streams)
+  pub len : length streams ≡ length first
+
+one_more : (k : ℕ) (first streams : List StreamLog) → k < length first → FedUpto k first streams → FedUpto (suc k) first (settle_at k streams)
+one_more k first streams h f =
+    let in_range : k < length streams = omega (arith, f.len) in
+    let s : StreamLog = get_or streams k no_stream in
+    let before : List StreamLog = take k streams in
+    let n : IsNumbered s = AllNumbered-at streams k no_stream in_range f.kept.numbers in
+    let fd : Feeds before s (settled_stream streams s) s.config.copies = feeds_at streams k s f.kept.numbers n (AllKeep-at [] streams k no_stream in_range f.kept.copies) in
+    let t : StreamLog = settled_stream streams s in
+    let new : List StreamLog = set streams k t in
+    let steps : Steps before s t = record { grows = record { node = fd.node; config = fd.config; more = fd.more; entries = fd.entries; rising = fd.numbered.rising }; own = λ k. fd.right } in
+    let T : Copies → Type 0 = λ x. IsThrough before t x in
+    let front : take (suc k) new ≡ before ++ t ∷ [] = ap (λ n. take n new) (sym (add-one k)) ∙ take_more_set streams k t in_range in
+    let Q : List StreamLog → Type 0 = λ x. ThroughFrom [] x in
+    record {
+      grown = all_grow_more first streams new f.grown (all_grow-set streams k no_stream t in_range (record { node = fd.node; config = fd.config; more = fd.more; entries = fd.entries; copying = fd.copying }));
+      kept = record {
+        copies = keeps_steps [] [] streams new tt (all_step-set [] streams k no_stream t in_range f.kept.numbers steps) f.kept.copies;
+        numbers = AllNumbered-set streams k t f.kept.numbers fd.numbered;
+      };
+      through = subst Q (sym front) (through-push [] before t f.through (subst T (ap (λ x. x.copies) (sym fd.config)) fd.through));
+      len = length-set streams k t ∙ f.len;
+    }
+
+pub fed_upto : (k : ℕ) (first : List StreamLog) → k ≤ length first → IsKept first → FedUpto k first (settled_upto k first)
+fed_upto zero first h kept = record { grown = all_grow_not first; kept = kept; through = tt; len = refl }
+fed_upto (suc k) first h kept = one_more k first (settled_upto k first) (omega arith) (fed_upto k first (omega arith) kept)
+
+-- a settle leaves each copy right and through, and makes entries by copying alone
+pub record SettlesAll (first streams : List StreamLog) : Type 0 where
+  pub grown : AllGrow first streams
+  pub kept : IsKept streams
+  pub through : AreThrough streams streams
+
+pub settles_all : (first : List StreamLog) → IsKept first → SettlesAll first (settled_upto (length first) first)
+settles_all first kept =
+    let streams : List StreamLog = settled_upto (length first) first in
+    let f : FedUpto (length first) first streams = fed_upto (length first) first (omega arith) kept in
+    let P : List StreamLog → Type 0 = λ x. ThroughFrom [] x in
+    record { grown = f.grown; kept = f.kept; through = all_through [] streams (subst P (take_all (length first) streams (omega (arith, f.len))) f.through) }

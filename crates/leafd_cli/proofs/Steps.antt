@@ -1,136 +1,174 @@
--- Each line of the plain world leads as a book says, and keeps what the world keeps.
-use Rattle.std.proofs.Common.{◌≡◌, ℕ, ◌+◌, ◌^◌, ◌<◌, ◌≤◌, List, [], ◌∷◌, ◌++◌, Bool, true, false, cond, Option, None, Some, refl, sym, subst, arith}
-use Rattle.std.specs.Prelude.{IsTrue}
-use Rattle.std.proofs.lemmas.Bool.{and_parts}
+-- Streams that grow keep what the world keeps of its copies.
+use Rattle.std.proofs.Common.{◌≡◌, ℕ, ◌<◌, List, [], ◌∷◌, ◌++◌, length, take, set, get_or, Bool, true, false, cond, Option, None, Some, inl, inr, zero, suc, refl, sym, ap, subst, ◌∙◌, arith, append_assoc}
+use Rattle.std.specs.Prelude.{◌⊎◌}
+use Rattle.std.proofs.lemmas.List.{append-nil}
+use Rattle.nats_text.specs.declared.message.Start.{Start}
+use Rattle.nats_text.specs.declared.message.Start.TheVariants.{Seq, Time}
+use Rattle.nats_text.specs.declared.origin.Origin.{Origin}
 use Rattle.stream_fold.specs.declared.entry.Entry.{Entry}
+use Rattle.stream_fold.specs.declared.entry.BoundTo.{BoundTo}
 use Rattle.stream_fold.specs.declared.config.Config.{Config}
 use Rattle.stream_fold.specs.declared.config.Copies.{Copies}
-use Rattle.stream_fold.specs.declared.config.Copies.TheVariants.{Nothing, Mirror as MirrorOf, Sources}
-use Rattle.stream_fold.specs.Histories.{last, NumbersRise}
-use Rattle.leafd_script.specs.declared.line.Line.{Line}
-use Rattle.leafd_script.specs.declared.line.Line.TheVariants.{Node, Stream, Mirror, Publish, Settle, Show}
-use Rattle.leafd_cli.specs.Logs.{StreamLog, Logs, is_at, stream_at}
-use Rattle.leafd_cli.specs.Legal.{is_legal, is_plain_kind, is_plain_at, takes_at}
-use Rattle.leafd_cli.specs.Operations.{operated, new_stream, stream_config, mirror_config, with_entry_in, published, next_number}
-use Rattle.leafd_cli.specs.Copies.{IsRightCopy, AreRight}
-use Rattle.leafd_cli.specs.Book.{Leads}
-use Rattle.leafd_cli.specs.Plain.{step}
-use Rattle.leafd_cli.specs.Keeping.{KeepsCopy, AllKeep, IsNumbered, AllNumbered, IsKept}
+use Rattle.stream_fold.specs.declared.config.Copies.TheVariants.{Nothing, Mirror, Sources}
+use Rattle.stream_fold.specs.Histories.{History, NumbersRise}
+use Rattle.stream_fold.specs.Copying.{IsStored, IsLeftOut, IsRightStart, bound}
+use Rattle.stream_fold.proofs.Growth.{put-stays}
+use Rattle.stream_fold.proofs.KeptRows.{IsHole-stays}
+use Rattle.leafd_cli.specs.Logs.{StreamLog, history_of, is_at, stream_at}
+use Rattle.leafd_cli.specs.Legal.{stream_of, origin_of}
+use Rattle.leafd_cli.specs.Copies.{CopyHolds}
+use Rattle.leafd_cli.specs.Keeping.{KeepsCopy, AllKeep, IsNumbered, AllNumbered}
 use Rattle.leafd_cli.proofs.Joined.{not_some}
-use Rattle.leafd_cli.proofs.Numbers.{Goes, numbered-push, AllNumbered-more, AllNumbered-push}
-use Rattle.leafd_cli.proofs.Publishes.{AllGrows, AllGrows-append, AllGrows-with_entry_in, AllKeep-grows, length-with_entry_in, all_grows_none}
-use Rattle.leafd_cli.proofs.Settles.{found_numbered}
-use Rattle.leafd_cli.proofs.Whole.{all_grow_not, settles_all, SettlesAll}
 
-right_copy : (all : List StreamLog) (s : StreamLog) (copies : Copies) → KeepsCopy all s copies → IsRightCopy all s copies
-right_copy all s Nothing k = tt
-right_copy all s (MirrorOf want) k = (k.0, k.1, k.4)
-right_copy all s (Sources wants) k = absurd k
+-- a log that grew by some entries
+pub record Grows (s t : StreamLog) : Type 0 where
+  pub node : t.node ≡ s.node
+  pub config : t.config ≡ s.config
+  pub more : List Entry
+  pub entries : t.entries ≡ s.entries ++ more
+  pub rising : NumbersRise t.entries
 
--- what the world keeps of its copies is more than that they are right
-pub AreRight-kept : (all streams : List StreamLog) → AllKeep all streams → AreRight all streams
-AreRight-kept all [] k = tt
-AreRight-kept all (s ∷ streams) k = (right_copy all s s.config.copies k.0, AreRight-kept all streams k.1)
+-- ---- what holds of an origin holds of it when it has grown
 
-plain_is : (copies : Copies) → is_plain_kind copies ≡ true → copies ≡ Nothing
-plain_is Nothing e = refl
-plain_is (MirrorOf want) e = absurd (let wrong : false ≡ true = e in cc)
-plain_is (Sources wants) e = absurd (let wrong : false ≡ true = e in cc)
+each_longer : (c : Config) (origin copy more : List Entry) (seq : ℕ) → NumbersRise (origin ++ more) → IsStored (record { config = c; entries = origin }) copy seq ⊎ IsLeftOut (record { config = c; entries = origin }) copy seq → IsStored (record { config = c; entries = origin ++ more }) copy seq ⊎ IsLeftOut (record { config = c; entries = origin ++ more }) copy seq
+each_longer c origin copy more seq rise (inl s) = inl (record { message = s.message; here = s.here; there = put-stays origin more seq s.message s.there })
+each_longer c origin copy more seq rise (inr s) = inr (record { here = s.here; hole = IsHole-stays c origin more seq rise s.hole })
 
--- a stream that is there and is no copy
-pub record IsPlainThere (node name : List ℕ) (streams : List StreamLog) : Type 0 where
-  pub stream : StreamLog
-  pub found : stream_at node name streams ≡ Some stream
-  pub plain : stream.config.copies ≡ Nothing
+start_longer : (c : Config) (origin more : List Entry) (start : Start) (n : ℕ) → IsRightStart (record { config = c; entries = origin }) start n → IsRightStart (record { config = c; entries = origin ++ more }) start n
+start_longer c origin more (Seq k) n r = r
+start_longer c origin more (Time t) n r = record { front = r.front; rest = r.rest ++ more; whole = ap (λ es. es ++ more) r.whole ∙ append_assoc r.front r.rest more; is = r.is }
 
-plain_there : (node name : List ℕ) (streams : List StreamLog) (o : Option StreamLog) → stream_at node name streams ≡ o → is_plain_at o ≡ true → IsPlainThere node name streams
-plain_there node name streams None e p = absurd (let wrong : false ≡ true = p in cc)
-plain_there node name streams (Some s) e p = record { stream = s; found = e; plain = plain_is s.config.copies p }
+holds_longer : (b : Option BoundTo) (start : Start) (c : Config) (origin copy more : List Entry) → NumbersRise (origin ++ more) → CopyHolds b start (record { config = c; entries = origin }) copy → CopyHolds b start (record { config = c; entries = origin ++ more }) copy
+holds_longer None start c origin copy more rise h = h
+holds_longer (Some to) start c origin copy more rise h = (h.0, start_longer c origin more start to.start h.1, record { below = h.2.below; each = λ seq low high. each_longer c origin copy more seq rise (h.2.each seq low high) })
 
-taker_there : (node name subject : List ℕ) (streams : List StreamLog) (o : Option StreamLog) → stream_at node name streams ≡ o → takes_at subject o ≡ true → IsPlainThere node name streams
-taker_there node name subject streams None e p = absurd (let wrong : false ≡ true = p in cc)
-taker_there node name subject streams (Some s) e p = record { stream = s; found = e; plain = plain_is s.config.copies (and_parts _ _ p).0 }
+pub holds_grown : (b : Option BoundTo) (start : Start) (o p : StreamLog) (copy : List Entry) → Grows o p → CopyHolds b start (history_of o) copy → CopyHolds b start (history_of p) copy
+holds_grown b start o p copy g h =
+    let R : List Entry → Type 0 = λ es. NumbersRise es in
+    let P : History → Type 0 = λ x. CopyHolds b start x copy in
+    let q : record { config = o.config; entries = o.entries ++ g.more } ≡ record { config = p.config; entries = p.entries } = rw (g.config, g.entries) refl in
+    subst P q (holds_longer b start o.config o.entries copy g.more (subst R g.entries g.rising) h)
 
-AllKeep-push : (all streams : List StreamLog) (t : StreamLog) → AllKeep all streams → KeepsCopy all t t.config.copies → AllKeep all (streams ++ t ∷ [])
-AllKeep-push all [] t r h = (h, tt)
-AllKeep-push all (s ∷ streams) t r h = (r.0, AllKeep-push all streams t r.1 h)
+-- ---- streams, one by one
 
-stream_at-append : (node name : List ℕ) (streams more : List StreamLog) (o : StreamLog) → stream_at node name streams ≡ Some o → stream_at node name (streams ++ more) ≡ Some o
+abbrev pub AllGrown : List StreamLog → List StreamLog → Type 0
+AllGrown [] [] = Unit {0}
+AllGrown [] (t ∷ new) = ⊥
+AllGrown (s ∷ old) [] = ⊥
+AllGrown (s ∷ old) (t ∷ new) = Grows s t × AllGrown old new
+
+grown-push : (old new : List StreamLog) (s t : StreamLog) → AllGrown old new → Grows s t → AllGrown (old ++ s ∷ []) (new ++ t ∷ [])
+grown-push [] [] s t g h = (h, tt)
+grown-push [] (y ∷ new) s t g h = absurd g
+grown-push (x ∷ old) [] s t g h = absurd g
+grown-push (x ∷ old) (y ∷ new) s t g h = (g.0, grown-push old new s t g.1 h)
+
+abbrev FoundGrown : List ℕ → List ℕ → List StreamLog → StreamLog → Type 0
+FoundGrown node name new o = (t : StreamLog) × (stream_at node name new ≡ Some t) × Grows o t
+
+found_grown : (node name : List ℕ) (old new : List StreamLog) (o : StreamLog) → AllGrown old new → stream_at node name old ≡ Some o → FoundGrown node name new o
+found_grown node name [] new o g e = not_some o e
+found_grown node name (s ∷ old) [] o g e = absurd g
+found_grown node name (s ∷ old) (t ∷ new) o g e =
+    let same : is_at node name t ≡ is_at node name s = rw (g.0.node, g.0.config) refl in
+    let P : Bool → Type 0 = λ b. is_at node name s ≡ b → cond b (Some s) (stream_at node name old) ≡ Some o → FoundGrown node name (t ∷ new) o in
+    let go : (b : Bool) → P b = λ b. elim b as P [
+      | true ↦ (λ a f. let so : s ≡ o = cc in let Q : StreamLog → Type 0 = λ x. Grows x t in (t, rw (same, a) refl, subst Q so g.0))
+      | false ↦ (λ a f. let r = found_grown node name old new o g.1 f in (r.0, rw (same, a) r.1, r.2))
+    ] in
+    go (is_at node name s) refl e
+
+origin_grown : (node : Option (List ℕ)) (name : List ℕ) (old new : List StreamLog) (o : StreamLog) → AllGrown old new → stream_of node name old ≡ Some o → (t : StreamLog) × (stream_of node name new ≡ Some t) × Grows o t
+origin_grown None name old new o g e = not_some o e
+origin_grown (Some node) name old new o g e = found_grown node name old new o g e
+
+keeps_grown : (old new : List StreamLog) (s : StreamLog) (copies : Copies) → AllGrown old new → KeepsCopy old s copies → KeepsCopy new s copies
+keeps_grown old new s Nothing g k = tt
+keeps_grown old new s (Mirror want) g k =
+    let o = origin_grown want.node want.stream old new k.0 g k.1 in
+    (o.0, o.1, k.2, holds_grown (bound 0 s.entries) want.start k.0 o.0 s.entries o.2 k.3)
+keeps_grown old new s (Sources wants) g k = k
+
+-- a stream that grew and, over these streams before it, is as right a copy as it was
+pub record Steps (before : List StreamLog) (s t : StreamLog) : Type 0 where
+  pub grows : Grows s t
+  pub own : KeepsCopy before s s.config.copies → KeepsCopy before t s.config.copies
+
+abbrev pub AllStep : List StreamLog → List StreamLog → List StreamLog → Type 0
+AllStep before [] [] = Unit {0}
+AllStep before [] (t ∷ new) = ⊥
+AllStep before (s ∷ old) [] = ⊥
+AllStep before (s ∷ old) (t ∷ new) = Steps before s t × AllStep (before ++ s ∷ []) old new
+
+pub keeps_steps : (before after old new : List StreamLog) → AllGrown before after → AllStep before old new → AllKeep before old → AllKeep after new
+keeps_steps before after [] [] g st k = tt
+keeps_steps before after [] (t ∷ new) g st k = absurd st
+keeps_steps before after (s ∷ old) [] g st k = absurd st
+keeps_steps before after (s ∷ old) (t ∷ new) g st k =
+    let P : Copies → Type 0 = λ c. KeepsCopy after t c in
+    let own : KeepsCopy after t s.config.copies = keeps_grown before after t s.config.copies g (st.0.own k.0) in
+    (subst P (ap (λ c. c.copies) (sym st.0.grows.config)) own, keeps_steps (before ++ s ∷ []) (after ++ t ∷ []) old new (grown-push before after s t g st.0.grows) st.1 k.1)
+
+pub step_none : (before : List StreamLog) (s : StreamLog) → IsNumbered s → Steps before s s
+step_none before s n = record { grows = record { node = refl; config = refl; more = []; entries = sym (append-nil s.entries); rising = n.rising }; own = λ k. k }
+
+pub all_step_none : (before streams : List StreamLog) → AllNumbered streams → AllStep before streams streams
+all_step_none before [] n = tt
+all_step_none before (s ∷ streams) n = (step_none before s n.0, all_step_none (before ++ s ∷ []) streams n.1)
+
+-- the stream at one place stepped
+pub all_step-set : (before streams : List StreamLog) (k : ℕ) (d t : StreamLog) → k < length streams → AllNumbered streams → Steps (before ++ take k streams) (get_or streams k d) t → AllStep before streams (set streams k t)
+all_step-set before [] k d t h n st = absurd (omega (arith, h))
+all_step-set before (x ∷ streams) zero d t h n st =
+    let P : List StreamLog → Type 0 = λ b. Steps b x t in
+    (subst P (append-nil before) st, all_step_none (before ++ x ∷ []) streams n.1)
+all_step-set before (x ∷ streams) (suc k) d t h n st =
+    let P : List StreamLog → Type 0 = λ b. Steps b (get_or streams k d) t in
+    (step_none before x n.0, all_step-set (before ++ x ∷ []) streams k d t (omega (arith, h)) n.1 (subst P (sym (append_assoc before (x ∷ []) (take k streams))) st))
+
+-- what is kept of the stream at a place
+pub AllKeep-at : (before streams : List StreamLog) (k : ℕ) (d : StreamLog) → k < length streams → AllKeep before streams → KeepsCopy (before ++ take k streams) (get_or streams k d) (get_or streams k d).config.copies
+AllKeep-at before [] k d h a = absurd (omega (arith, h))
+AllKeep-at before (x ∷ streams) zero d h a = let P : List StreamLog → Type 0 = λ b. KeepsCopy b x x.config.copies in subst P (sym (append-nil before)) a.0
+AllKeep-at before (x ∷ streams) (suc k) d h a =
+    let s = get_or streams k d in
+    let P : List StreamLog → Type 0 = λ b. KeepsCopy b s s.config.copies in
+    subst P (append_assoc before (x ∷ []) (take k streams)) (AllKeep-at (before ++ x ∷ []) streams k d (omega (arith, h)) a.1)
+
+-- one stream more
+pub AllKeep-push : (before streams : List StreamLog) (t : StreamLog) → AllKeep before streams → KeepsCopy (before ++ streams) t t.config.copies → AllKeep before (streams ++ t ∷ [])
+AllKeep-push before [] t a k = let P : List StreamLog → Type 0 = λ b. KeepsCopy b t t.config.copies in (subst P (append-nil before) k, tt)
+AllKeep-push before (x ∷ streams) t a k =
+    let P : List StreamLog → Type 0 = λ b. KeepsCopy b t t.config.copies in
+    (a.0, AllKeep-push (before ++ x ∷ []) streams t a.1 (subst P (sym (append_assoc before (x ∷ []) streams)) k))
+
+-- ---- a stream that was found among the first is found among all
+
+pub stream_at-append : (node name : List ℕ) (streams more : List StreamLog) (o : StreamLog) → stream_at node name streams ≡ Some o → stream_at node name (streams ++ more) ≡ Some o
 stream_at-append node name [] more o e = not_some o e
 stream_at-append node name (s ∷ streams) more o e =
     let P : Bool → Type 0 = λ b. cond b (Some s) (stream_at node name streams) ≡ Some o → cond b (Some s) (stream_at node name (streams ++ more)) ≡ Some o in
     let go : (b : Bool) → P b = λ b. elim b as P [ true ↦ (λ f. f) | false ↦ (λ f. stream_at-append node name streams more o f) ] in
     go (is_at node name s) e
 
--- one stream more leaves the others as they are
-kept_with : (streams : List StreamLog) (t : StreamLog) → AllKeep streams streams → KeepsCopy (streams ++ t ∷ []) t t.config.copies → AllKeep (streams ++ t ∷ []) (streams ++ t ∷ [])
-kept_with streams t r h = AllKeep-push (streams ++ t ∷ []) streams t (AllKeep-grows streams (streams ++ t ∷ []) streams streams (AllGrows-append streams (t ∷ [])) (all_grows_none streams) refl r) h
+stream_of-append : (node : Option (List ℕ)) (name : List ℕ) (streams more : List StreamLog) (o : StreamLog) → stream_of node name streams ≡ Some o → stream_of node name (streams ++ more) ≡ Some o
+stream_of-append None name streams more o e = not_some o e
+stream_of-append (Some node) name streams more o e = stream_at-append node name streams more o e
 
-new_numbered : (number : ℕ) (node : List ℕ) (config : Config) → 0 < number → IsNumbered number (new_stream node config)
-new_numbered number node config h = record { rising = tt; below = h; copies = refl }
+pub origin_of-append : (want : Origin) (streams more : List StreamLog) (o : StreamLog) → origin_of want streams ≡ Some o → origin_of want (streams ++ more) ≡ Some o
+origin_of-append want streams more o e = stream_of-append want.node want.stream streams more o e
 
-made : (number : ℕ) (streams : List StreamLog) (node : List ℕ) (config : Config) → IsKept number streams → KeepsCopy (streams ++ new_stream node config ∷ []) (new_stream node config) config.copies → IsKept (number + 1) (streams ++ new_stream node config ∷ [])
-made number streams node config k h = record {
-  copies = kept_with streams (new_stream node config) k.copies h;
-  numbers = AllNumbered-push (number + 1) streams (new_stream node config) (AllNumbered-more number (number + 1) streams (omega arith) k.numbers) (new_numbered (number + 1) node config (omega arith));
-}
-
-numbered_with : (number : ℕ) (node name : List ℕ) (e : Entry) (o : StreamLog) (streams : List StreamLog) → stream_at node name streams ≡ Some o → AllNumbered number streams → Goes number o e → AllNumbered number (with_entry_in node name e streams)
-numbered_with number node name e o [] f n g = not_some o f
-numbered_with number node name e o (s ∷ streams) f n g =
-    let P : Bool → Type 0 = λ b. cond b (Some s) (stream_at node name streams) ≡ Some o → AllNumbered number (cond b (record s { entries = s.entries ++ e ∷ [] } ∷ streams) (s ∷ with_entry_in node name e streams)) in
+-- a stream that is found is numbered like all
+pub found_numbered : (node name : List ℕ) (streams : List StreamLog) (o : StreamLog) → AllNumbered streams → stream_at node name streams ≡ Some o → IsNumbered o
+found_numbered node name [] o n e = not_some o e
+found_numbered node name (s ∷ streams) o n e =
+    let P : Bool → Type 0 = λ b. cond b (Some s) (stream_at node name streams) ≡ Some o → IsNumbered o in
     let go : (b : Bool) → P b = λ b. elim b as P [
-      | true ↦ (λ q. let so : s ≡ o = cc in let Q : StreamLog → Type 0 = λ x. Goes number x e in (numbered-push number s e n.0 (subst Q (sym so) g), n.1))
-      | false ↦ (λ q. (n.0, numbered_with number node name e o streams q n.1 g))
+      | true ↦ (λ f. let so : s ≡ o = cc in let Q : StreamLog → Type 0 = λ x. IsNumbered x in subst Q so n.0)
+      | false ↦ (λ f. found_numbered node name streams o n.1 f)
     ] in
-    go (is_at node name s) f
+    go (is_at node name s) e
 
--- the entry of a publish may stand next
-pub published_goes : (number : ℕ) (o : StreamLog) (subject text : List ℕ) → IsNumbered number o → Goes (number + 1) o (published (last o.entries + 1) subject text)
-published_goes number o subject text n = record { above = omega arith; below = omega (arith, n.below); same = λ c. refl }
-
-published_kept : (number : ℕ) (logs : Logs) (node name subject text : List ℕ) → IsKept number logs.streams → IsTrue (is_legal logs (Publish node name subject text)) → IsKept (number + 1) (operated logs (Publish node name subject text))
-published_kept number logs node name subject text k legal =
-    let streams = logs.streams in
-    let p : IsPlainThere node name streams = taker_there node name subject streams (stream_at node name streams) refl (and_parts _ _ legal).0 in
-    let P : Option StreamLog → Type 0 = λ o. IsKept (number + 1) (with_entry_in node name (published (next_number o) subject text) streams) in
-    let e : Entry = published (last p.stream.entries + 1) subject text in
-    let new : List StreamLog = with_entry_in node name e streams in
-    let more : AllNumbered (number + 1) streams = AllNumbered-more number (number + 1) streams (omega arith) k.numbers in
-    let n : IsNumbered number p.stream = found_numbered number node name streams p.stream k.numbers p.found in
-    let g : Goes (number + 1) p.stream e = published_goes number p.stream subject text n in
-    let rise : NumbersRise (p.stream.entries ++ e ∷ []) = (numbered-push (number + 1) p.stream e (found_numbered (number + 1) node name streams p.stream more p.found) g).rising in
-    let grows : AllGrows streams new = AllGrows-with_entry_in node name e p.stream streams p.found p.plain rise in
-    subst P (sym p.found) (record {
-      copies = AllKeep-grows streams new streams new grows grows (length-with_entry_in node name e streams) k.copies;
-      numbers = numbered_with (number + 1) node name e p.stream streams p.found more g;
-    })
-
-mirrored_kept : (number : ℕ) (logs : Logs) (node name on os : List ℕ) → IsKept number logs.streams → IsTrue (is_legal logs (Mirror node name on os)) → IsKept (number + 1) (operated logs (Mirror node name on os))
-mirrored_kept number logs node name on os k legal =
-    let p : IsPlainThere on os logs.streams = plain_there on os logs.streams (stream_at on os logs.streams) refl (and_parts _ _ (and_parts _ _ (and_parts _ _ legal).1).0).1 in
-    let t : StreamLog = new_stream node (mirror_config name on os) in
-    made number logs.streams node (mirror_config name on os) k (p.stream, stream_at-append on os logs.streams (t ∷ []) p.stream p.found, p.plain, refl, λ seq. refl)
-
-kept_more : (number : ℕ) (streams : List StreamLog) → IsKept number streams → IsKept (number + 1) streams
-kept_more number streams k = record { copies = k.copies; numbers = AllNumbered-more number (number + 1) streams (omega arith) k.numbers }
-
--- what the world keeps, it keeps over each legal line
-pub kept_on : (number : ℕ) (logs : Logs) (line : Line) → number ≤ 2 ^ 63 → IsKept number logs.streams → IsTrue (is_legal logs line) → IsKept (number + 1) (step logs line).streams
-kept_on number logs (Node node) le k legal = kept_more number logs.streams k
-kept_on number logs (Stream node name subject) le k legal = made number logs.streams node (stream_config name subject) k tt
-kept_on number logs (Mirror node name on os) le k legal = mirrored_kept number logs node name on os k legal
-kept_on number logs (Publish node name subject text) le k legal = published_kept number logs node name subject text k legal
-kept_on number logs Settle le k legal = kept_more number (step logs Settle).streams (settles_all number logs.streams le k).kept
-kept_on number logs (Show node name) le k legal = kept_more number logs.streams k
-
--- each legal line leads as a book says
-pub leads : (number : ℕ) (logs : Logs) (line : Line) → number ≤ 2 ^ 63 → IsKept number logs.streams → IsTrue (is_legal logs line) → Leads logs line (step logs line)
-leads number logs (Node node) le k legal = record { nodes = refl; streams = all_grow_not logs.streams; right = AreRight-kept logs.streams logs.streams k.copies; settled = tt }
-leads number logs (Stream node name subject) le k legal = record { nodes = refl; streams = all_grow_not (operated logs (Stream node name subject)); right = AreRight-kept _ _ (kept_on number logs (Stream node name subject) le k legal).copies; settled = tt }
-leads number logs (Mirror node name on os) le k legal = record { nodes = refl; streams = all_grow_not (operated logs (Mirror node name on os)); right = AreRight-kept _ _ (kept_on number logs (Mirror node name on os) le k legal).copies; settled = tt }
-leads number logs (Publish node name subject text) le k legal = record { nodes = refl; streams = all_grow_not (operated logs (Publish node name subject text)); right = AreRight-kept _ _ (kept_on number logs (Publish node name subject text) le k legal).copies; settled = tt }
-leads number logs Settle le k legal =
-    let s : SettlesAll number logs.streams (step logs Settle).streams = settles_all number logs.streams le k in
-    record { nodes = refl; streams = s.grown; right = AreRight-kept _ _ s.kept.copies; settled = s.through }
-leads number logs (Show node name) le k legal = record { nodes = refl; streams = all_grow_not logs.streams; right = AreRight-kept logs.streams logs.streams k.copies; settled = tt }
+pub origin_numbered : (node : Option (List ℕ)) (name : List ℕ) (streams : List StreamLog) (o : StreamLog) → AllNumbered streams → stream_of node name streams ≡ Some o → IsNumbered o
+origin_numbered None name streams o n e = not_some o e
+origin_numbered (Some node) name streams o n e = found_numbered node name streams o n e

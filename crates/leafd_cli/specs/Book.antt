@@ -1,38 +1,46 @@
 -- The book of a script: the logs after each line. Which books are right, and their report.
-use Rattle.std.specs.Prelude.{◌≡◌, ℕ, ◌+◌, List, [], ◌∷◌, ◌++◌, Ok}
+use Rattle.std.specs.Prelude.{◌≡◌, ℕ, ◌+◌, List, [], ◌∷◌, ◌++◌, Option, None, Some, Ok}
 use Rattle.leafd_script.specs.declared.line.Line.{Line}
-use Rattle.leafd_script.specs.declared.line.Line.TheVariants.{Node, Stream, Mirror, Publish, Settle, Show}
+use Rattle.leafd_script.specs.declared.line.Line.TheVariants.{Settle}
 use Rattle.leafd_cli.specs.Logs.{Logs, no_logs}
 use Rattle.leafd_cli.specs.Rows.{Row}
 use Rattle.leafd_cli.specs.Legal.{judged}
-use Rattle.leafd_cli.specs.Operations.{nodes_after, operated, AllGrow}
+use Rattle.leafd_cli.specs.Operations.{nodes_after, clock_after, quiet_after, operated, AllGrow}
 use Rattle.leafd_cli.specs.Copies.{AreRight, AreThrough}
 use Rattle.leafd_cli.specs.Report.{printed}
 
 -- after `settle` each copy has come as far as its origin
 abbrev pub IsSettledBy : Line → Logs → Type 0
-IsSettledBy (Node node) new = Unit {0}
-IsSettledBy (Stream node name subject) new = Unit {0}
-IsSettledBy (Mirror node name origin_node origin) new = Unit {0}
-IsSettledBy (Publish node name subject text) new = Unit {0}
 IsSettledBy Settle new = AreThrough new.streams new.streams
-IsSettledBy (Show node name) new = Unit {0}
+IsSettledBy _ new = Unit {0}
 
 -- how a line leads from the logs before it to those after it
 pub record Leads (old : Logs) (line : Line) (new : Logs) : Type 0 where
   pub nodes : new.nodes ≡ nodes_after old line
+  pub clock : new.clock ≡ clock_after old line
+  pub quiet : new.quiet ≡ quiet_after old line
   -- an operation makes its entry; all other entries are of copying; no log loses one
   pub streams : AllGrow (operated old line) new.streams
   -- each copy has what its origin's log says
   pub right : AreRight new.streams new.streams
   pub settled : IsSettledBy line new
 
+-- what a row says leads to the next logs; an empty line and a comment change nothing
+abbrev pub LeadsOn : Logs → Option Line → Logs → Type 0
+LeadsOn old None new = new ≡ old
+LeadsOn old (Some line) new = Leads old line new
+
+-- what a row prints
+abbrev pub row_text : ℕ → Logs → Option Line → List ℕ
+row_text number logs None = []
+row_text number logs (Some line) = printed number logs line
+
 -- A right book for these lines, from this line number on and from the logs before it, and its report:
 -- each line is legal in its place, leads to the next logs, and prints its part of the report.
 abbrev pub IsBook : ℕ → Logs → List Row → List ℕ → List Logs → Type 0
 IsBook number old [] out [] = out ≡ []
 IsBook number old (row ∷ rows) out (new ∷ book) =
-    (line : Line) × (judged old row ≡ Ok line) × Leads old line new × (rest : List ℕ) × (out ≡ printed number old line new ++ rest) × IsBook (number + 1) new rows rest book
+    (said : Option Line) × (judged old row ≡ Ok said) × LeadsOn old said new × (rest : List ℕ) × (out ≡ row_text number old said ++ rest) × IsBook (number + 1) new rows rest book
 IsBook number old [] out (new ∷ book) = ⊥
 IsBook number old (row ∷ rows) out [] = ⊥
 

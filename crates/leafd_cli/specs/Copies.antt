@@ -9,7 +9,8 @@ use Rattle.stream_fold.specs.declared.entry.BoundTo.{BoundTo}
 use Rattle.stream_fold.specs.declared.entry.Numbered.{Numbered}
 use Rattle.stream_fold.specs.Histories.{History, put, kept}
 use Rattle.stream_fold.specs.Copying.{bound, front, MirrorHolds, IsRightStart}
-use Rattle.leafd_cli.specs.Logs.{StreamLog, history_of, stream_at}
+use Rattle.leafd_cli.specs.Logs.{StreamLog, history_of}
+use Rattle.leafd_cli.specs.Legal.{origin_of}
 
 -- What a mirror has of its origin. One that isn't bound has stored nothing. One that is names the
 -- only incarnation that its origin has had and starts right, and has at each number from its start
@@ -17,14 +18,6 @@ use Rattle.leafd_cli.specs.Logs.{StreamLog, history_of, stream_at}
 abbrev pub CopyHolds : Option BoundTo → Start → History → List Entry → Type 0
 CopyHolds None start origin copy = (seq : ℕ) → put seq copy ≡ None
 CopyHolds (Some to) start origin copy = (to.incarnation ≡ 1) × IsRightStart origin start to.start × MirrorHolds origin copy (max 1 to.start)
-
--- the stream that a copy copies
-abbrev pub stream_of : Option (List ℕ) → List ℕ → List StreamLog → Option StreamLog
-stream_of None name streams = None
-stream_of (Some node) name streams = stream_at node name streams
-
-abbrev pub origin_of : Origin → List StreamLog → Option StreamLog
-origin_of origin streams = stream_of origin.node origin.stream streams
 
 -- a mirror whose origin is there has what its origin's log says
 abbrev pub IsRightMirror : List StreamLog → StreamLog → Origin → Type 0

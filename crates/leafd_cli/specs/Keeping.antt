@@ -1,39 +1,48 @@
 -- What the plain world keeps of its streams, beside what a book says of them.
-use Rattle.std.specs.Prelude.{◌≡◌, ℕ, ◌<◌, ◌^◌, List, [], ◌∷◌, Some}
+use Rattle.std.specs.Prelude.{◌≡◌, ℕ, ◌<◌, ◌^◌, List, [], ◌∷◌, ◌++◌, Some}
 use Rattle.nats_text.specs.declared.message.Start.TheVariants.{Seq}
 use Rattle.stream_fold.specs.declared.config.Copies.{Copies}
 use Rattle.stream_fold.specs.declared.config.Copies.TheVariants.{Nothing, Mirror, Sources}
 use Rattle.stream_fold.specs.declared.entry.Numbered.{Numbered}
-use Rattle.stream_fold.specs.Histories.{last, stands, NumbersRise}
+use Rattle.stream_fold.specs.Histories.{last, NumbersRise}
 use Rattle.stream_fold.specs.Copying.{bound}
-use Rattle.leafd_cli.specs.Logs.{StreamLog, history_of}
-use Rattle.leafd_cli.specs.Copies.{origin_of, CopyHolds}
+use Rattle.leafd_script.specs.declared.line.Line.{Line}
+use Rattle.leafd_script.specs.Lines.{MirrorsAnother, CopiesNothing}
+use Rattle.leafd_cli.specs.Logs.{StreamLog, history_of, limits_of}
+use Rattle.leafd_cli.specs.Legal.{origin_of}
+use Rattle.leafd_cli.specs.Copies.{CopyHolds}
 
--- a mirror copies a stream that is no copy, from its first number on, and has what that one's log says
+-- a mirror copies a stream that was made before it, from its first number on, and has what that
+-- one's log says
 abbrev pub KeepsCopy : List StreamLog → StreamLog → Copies → Type 0
-KeepsCopy streams copy Nothing = Unit {0}
-KeepsCopy streams copy (Mirror want) = (origin : StreamLog) × (origin_of want streams ≡ Some origin) × (origin.config.copies ≡ Nothing) × (want.start ≡ Seq 1) × CopyHolds (bound 0 copy.entries) want.start (history_of origin) copy.entries
-KeepsCopy streams copy (Sources wants) = ⊥
+KeepsCopy before copy Nothing = Unit {0}
+KeepsCopy before copy (Mirror want) = (origin : StreamLog) × (origin_of want before ≡ Some origin) × (want.start ≡ Seq 1) × CopyHolds (bound 0 copy.entries) want.start (history_of origin) copy.entries
+KeepsCopy before copy (Sources wants) = ⊥
 
+-- each of the streams that were made behind these keeps so
 abbrev pub AllKeep : List StreamLog → List StreamLog → Type 0
-AllKeep all [] = Unit {0}
-AllKeep all (s ∷ streams) = KeepsCopy all s s.config.copies × AllKeep all streams
+AllKeep before [] = Unit {0}
+AllKeep before (s ∷ streams) = KeepsCopy before s s.config.copies × AllKeep (before ++ s ∷ []) streams
 
--- the numbers of a log rise and are below a bound, and no entry changed what the stream copies
-pub record IsNumbered (bound : ℕ) (s : StreamLog) : Type 0 where
+-- the numbers of a log rise and are below 2^63, and no entry changed what the stream copies
+pub record IsNumbered (s : StreamLog) : Type 0 where
   pub rising : NumbersRise s.entries
-  pub below : last s.entries < bound
-  pub copies : (stands (history_of s)).limits.copies ≡ s.config.copies
+  pub below : last s.entries < 2 ^ 63
+  pub copies : (limits_of s).copies ≡ s.config.copies
 
-abbrev pub AllNumbered : ℕ → List StreamLog → Type 0
-AllNumbered bound [] = Unit {0}
-AllNumbered bound (s ∷ streams) = IsNumbered bound s × AllNumbered bound streams
+abbrev pub AllNumbered : List StreamLog → Type 0
+AllNumbered [] = Unit {0}
+AllNumbered (s ∷ streams) = IsNumbered s × AllNumbered streams
 
-pub record IsKept (bound : ℕ) (streams : List StreamLog) : Type 0 where
-  pub copies : AllKeep streams streams
-  pub numbers : AllNumbered bound streams
+pub record IsKept (streams : List StreamLog) : Type 0 where
+  pub copies : AllKeep [] streams
+  pub numbers : AllNumbered streams
 
 -- messages that may be put one after another behind this number
 abbrev pub CanFollow : ℕ → List Numbered → Type 0
 CanFollow low [] = Unit {0}
 CanFollow low (row ∷ rows) = (low < row.seq) × (row.seq < 2 ^ 63) × CanFollow row.seq rows
+
+-- a line `mirror` copies all of another stream, and a line `stream` copies nothing
+abbrev pub IsWellMade : Line → Type 0
+IsWellMade line = MirrorsAnother line × CopiesNothing line

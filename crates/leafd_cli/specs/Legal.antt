@@ -1,18 +1,28 @@
--- Which lines are legal in their place.
-use Rattle.std.specs.Prelude.{◌≡◌, ℕ, ◌-◌, ◌^◌, ◌%◌, min, List, length, Bool, true, false, ◌&&◌, not, ◌==◌, nat_lt, nat_le, if◌then◌else◌, Option, None, Some, is_some, Result, Ok, Err, count_by, sum_by}
+-- Which lines are legal in their place, and why another one isn't.
+use Rattle.std.specs.Prelude.{◌≡◌, ℕ, ◌+◌, ◌-◌, ◌^◌, ◌%◌, min, List, [], ◌∷◌, length, Bool, false, ◌&&◌, ◌||◌, not, ◌==◌, nat_lt, nat_le, if◌then◌else◌, Option, None, Some, is_some, is_none, Result, Ok, Err, count_by, sum_by}
 use Rattle.std.specs.Str.{bytes_eq}
 use Rattle.std.specs.List.{list_any}
 use Rattle.nats_text.specs.Hash.{fnv1a}
-use Rattle.nats_text.specs.Matching.{matches}
+use Rattle.nats_text.specs.Headers.{HeaderBlock, no_headers, written}
+use Rattle.nats_text.specs.Matching.{overlap}
 use Rattle.nats_text.specs.declared.origin.Origin.{Origin}
+use Rattle.stream_fold.specs.declared.config.Config.{Config}
 use Rattle.stream_fold.specs.declared.config.Copies.{Copies}
 use Rattle.stream_fold.specs.declared.config.Copies.TheVariants.{Nothing, Mirror as MirrorOf, Sources}
+use Rattle.stream_fold.specs.Checking.{config_fault}
+use Rattle.stream_fold.specs.Histories.{either}
+use Rattle.leafd_script.specs.declared.line.Changes.{Changes}
 use Rattle.leafd_script.specs.declared.line.Line.{Line}
-use Rattle.leafd_script.specs.declared.line.Line.TheVariants.{Node, Stream, Mirror, Publish, Settle, Show}
+use Rattle.leafd_script.specs.declared.line.Line.TheVariants.{Node, Stream, Mirror, Update, Publish, PublishWithHeaders, Delete, Purge, Expire, Clock, Settle, Show, Log, Heads, Quiet}
 use Rattle.leafd_script.specs.declared.fault.ScriptKind.{ScriptKind}
-use Rattle.leafd_script.specs.declared.fault.ScriptKind.TheVariants.{NotYet}
-use Rattle.leafd_cli.specs.Logs.{StreamLog, Logs, stream_at, has_node}
+use Rattle.leafd_script.specs.declared.fault.ScriptKind.TheVariants.{BadOption, NodeTaken, NoNode, StreamTaken, NoStream, Overlap, TooMany}
+use Rattle.leafd_cli.specs.Logs.{StreamLog, Logs, limits_of, stream_at, has_node}
 use Rattle.leafd_cli.specs.Rows.{Row, said_by}
+
+abbrev pub fault_if : Bool → ScriptKind → Option ScriptKind
+fault_if wrong kind = if wrong then Some kind else None
+
+-- ---- the stream that a line makes
 
 -- the shard of a stream on its node, of eight
 abbrev pub shard_of : List ℕ → ℕ
@@ -29,14 +39,14 @@ is_node (Some n) node = bytes_eq n node
 abbrev pub is_from : List ℕ → List ℕ → Origin → Bool
 is_from node name origin = is_node origin.node node && bytes_eq origin.stream name
 
-abbrev pub copies_from : List ℕ → List ℕ → Copies → Bool
-copies_from node name Nothing = false
-copies_from node name (MirrorOf origin) = is_from node name origin
-copies_from node name (Sources origins) = list_any (is_from node name) origins
+abbrev pub origins_of : Copies → List Origin
+origins_of Nothing = []
+origins_of (MirrorOf origin) = origin ∷ []
+origins_of (Sources origins) = origins
 
--- how many streams copy this one
+-- how many copies name this stream as their origin
 abbrev pub copy_count : List ℕ → List ℕ → List StreamLog → ℕ
-copy_count node name streams = count_by (λ s. copies_from node name s.config.copies) streams
+copy_count node name streams = sum_by (λ s. count_by (is_from node name) (origins_of s.config.copies)) streams
 
 -- how many subjects all streams have
 abbrev pub subject_count : List StreamLog → ℕ
@@ -46,58 +56,117 @@ subject_count streams = sum_by (λ s. length s.config.subjects) streams
 abbrev pub IsCapped : ℕ → ℕ → Type 0
 IsCapped capped n = capped ≡ min n (2 ^ 64 - 1)
 
--- whether a line `stream` made the stream
-abbrev pub is_plain_kind : Copies → Bool
-is_plain_kind Nothing = true
-is_plain_kind (MirrorOf origin) = false
-is_plain_kind (Sources origins) = false
+-- the node of an origin isn't there
+abbrev pub lacks_node : List (List ℕ) → Option (List ℕ) → Bool
+lacks_node nodes None = false
+lacks_node nodes (Some node) = not (has_node node nodes)
 
-abbrev pub is_plain : StreamLog → Bool
-is_plain s = is_plain_kind s.config.copies
+-- the stream that a copy copies
+abbrev pub stream_of : Option (List ℕ) → List ℕ → List StreamLog → Option StreamLog
+stream_of None name streams = None
+stream_of (Some node) name streams = stream_at node name streams
 
--- whether a pattern of the stream matches the subject
-abbrev pub takes : List ℕ → StreamLog → Bool
-takes subject s = list_any (λ pattern. matches pattern subject) s.config.subjects
+abbrev pub origin_of : Origin → List StreamLog → Option StreamLog
+origin_of origin streams = stream_of origin.node origin.stream streams
 
-abbrev pub is_plain_at : Option StreamLog → Bool
-is_plain_at None = false
-is_plain_at (Some s) = is_plain s
+-- the origin has 1,024 copies
+abbrev pub is_copied_out : List StreamLog → Option (List ℕ) → List ℕ → Bool
+is_copied_out streams None name = false
+is_copied_out streams (Some node) name = nat_le 1024 (copy_count node name streams)
 
-abbrev pub takes_at : List ℕ → Option StreamLog → Bool
-takes_at subject None = false
-takes_at subject (Some s) = is_plain s && takes subject s
+-- a subject overlaps one of the stream
+abbrev pub overlaps_stream : List (List ℕ) → StreamLog → Bool
+overlaps_stream subjects s = list_any (λ a. list_any (overlap a) s.config.subjects) subjects
 
--- whether some stream of the node takes the subject
-abbrev pub is_taken : List ℕ → List ℕ → List StreamLog → Bool
-is_taken node subject streams = list_any (λ s. bytes_eq s.node node && takes subject s) streams
+-- the subjects overlap those of another stream on the node
+abbrev pub is_overlapping : List ℕ → List (List ℕ) → List StreamLog → Bool
+is_overlapping node subjects streams = list_any (λ s. bytes_eq s.node node && overlaps_stream subjects s) streams
 
--- the subject that a line `stream` gives, by default the stream's name
-abbrev pub subject_or : Option (List ℕ) → List ℕ → List ℕ
-subject_or None name = name
-subject_or (Some subject) name = subject
+-- 256 streams of the shard, 1,024 copies of one stream, or 60,000 subjects
+abbrev pub is_one_too_many : List StreamLog → List ℕ → Config → Bool
+is_one_too_many streams node config =
+    nat_le 256 (count_by (is_in_shard node (shard_of config.name)) streams)
+    || list_any (λ origin. is_copied_out streams origin.node origin.stream) (origins_of config.copies)
+    || nat_lt 60000 (subject_count streams + length config.subjects)
 
--- the node is there, has no stream of the name, and has room for one in the name's shard
-abbrev pub is_free : List ℕ → List ℕ → Logs → Bool
-is_free node name logs = has_node node logs.nodes && not (is_some (stream_at node name logs.streams)) && nat_lt (count_by (is_in_shard node (shard_of name)) logs.streams) 256
+-- Why a stream of this configuration can't be made, in this order: its node or an origin's isn't
+-- there, the name is taken, an origin isn't there, subjects overlap, or it would be one too many.
+-- No line takes a stream away, so an origin was there first, and copies never go round in a ring.
+abbrev pub making_fault : List (List ℕ) → List StreamLog → List ℕ → Config → Option ScriptKind
+making_fault nodes streams node config =
+    either (fault_if (not (has_node node nodes) || list_any (λ origin. lacks_node nodes origin.node) (origins_of config.copies)) NoNode)
+    (either (fault_if (is_some (stream_at node config.name streams)) StreamTaken)
+    (either (fault_if (list_any (λ origin. is_none (origin_of origin streams)) (origins_of config.copies)) NoStream)
+    (either (fault_if (is_overlapping node config.subjects streams) Overlap)
+    (fault_if (is_one_too_many streams node config) TooMany))))
 
--- a mirror's origin: a stream of another node that a line `stream` made, with room for a copy
-abbrev pub allows_origin : List ℕ → List ℕ → List ℕ → List StreamLog → Bool
-allows_origin node origin_node origin streams = not (bytes_eq node origin_node) && is_plain_at (stream_at origin_node origin streams) && nat_lt (copy_count origin_node origin streams) 1024
+-- ---- the stream on which a line works
 
--- whether a line is legal in its place: at most 16 nodes, 256 streams of a shard, 60,000 subjects,
--- 1,024 copies of one stream, and 2,000,000 bytes of payload
-abbrev pub is_legal : Logs → Line → Bool
-is_legal logs (Node node) = not (has_node node logs.nodes) && nat_lt (length logs.nodes) 16
-is_legal logs (Stream node name subject) = is_free node name logs && not (is_taken node (subject_or subject name) logs.streams) && nat_lt (subject_count logs.streams) 60000
-is_legal logs (Mirror node name origin_node origin) = is_free node name logs && allows_origin node origin_node origin logs.streams
-is_legal logs (Publish node name subject text) = takes_at subject (stream_at node name logs.streams) && nat_le (length text) 2000000
-is_legal logs Settle = true
-is_legal logs (Show node name) = is_some (stream_at node name logs.streams)
+-- the node or the stream isn't there
+abbrev pub place_fault : List (List ℕ) → List StreamLog → List ℕ → List ℕ → Option ScriptKind
+place_fault nodes streams node name = either (fault_if (not (has_node node nodes)) NoNode) (fault_if (is_none (stream_at node name streams)) NoStream)
+
+-- header block and payload of a publish have more than 2,000,000 bytes
+abbrev pub is_too_large : HeaderBlock → List ℕ → Bool
+is_too_large headers text = nat_lt 2000000 (length (written headers) + length text)
+
+abbrev pub publish_fault : List (List ℕ) → List StreamLog → List ℕ → List ℕ → HeaderBlock → List ℕ → Option ScriptKind
+publish_fault nodes streams node name headers text = either (place_fault nodes streams node name) (fault_if (is_too_large headers text) TooMany)
+
+abbrev pub changed_to : {A : Type 0} → A → Option A → A
+changed_to old None = old
+changed_to old (Some new) = new
+
+-- a configuration with the limits that a line names
+abbrev pub with_changes : Changes → Config → Config
+with_changes changes c = record c {
+  max_msgs = changed_to c.max_msgs changes.max_msgs;
+  max_bytes = changed_to c.max_bytes changes.max_bytes;
+  max_age = changed_to c.max_age changes.max_age;
+  max_per_subject = changed_to c.max_per_subject changes.max_per_subject;
+  max_msg_size = changed_to c.max_msg_size changes.max_msg_size;
+  discard = changed_to c.discard changes.discard;
+}
+
+-- the changed configuration is one that the stream may not have
+abbrev pub is_wrong_change : Changes → Option StreamLog → Bool
+is_wrong_change changes None = false
+is_wrong_change changes (Some s) = is_some (config_fault (with_changes changes (limits_of s)))
+
+-- ---- each line
+
+-- why a line isn't legal over these nodes and streams: the first of its faults
+abbrev pub fault_in : List (List ℕ) → List StreamLog → Line → Option ScriptKind
+fault_in nodes streams (Node node) = either (fault_if (has_node node nodes) NodeTaken) (fault_if (nat_le 16 (length nodes)) TooMany)
+fault_in nodes streams (Stream node config) = making_fault nodes streams node config
+fault_in nodes streams (Mirror node config) = making_fault nodes streams node config
+fault_in nodes streams (Update node name changes) = either (place_fault nodes streams node name) (fault_if (is_wrong_change changes (stream_at node name streams)) BadOption)
+fault_in nodes streams (Publish node name subject text) = publish_fault nodes streams node name no_headers text
+fault_in nodes streams (PublishWithHeaders node name subject headers text) = publish_fault nodes streams node name headers text
+fault_in nodes streams (Delete node name seq) = place_fault nodes streams node name
+fault_in nodes streams (Purge node name pattern below) = place_fault nodes streams node name
+fault_in nodes streams (Expire node name) = place_fault nodes streams node name
+fault_in nodes streams (Clock moment) = None
+fault_in nodes streams Settle = None
+fault_in nodes streams (Show node name) = place_fault nodes streams node name
+fault_in nodes streams (Log node name) = place_fault nodes streams node name
+fault_in nodes streams Heads = None
+fault_in nodes streams Quiet = None
+
+-- why a line isn't legal in its place
+abbrev pub fault_of : Logs → Line → Option ScriptKind
+fault_of logs line = fault_in logs.nodes logs.streams line
+
+-- a line without a fault, or its fault
+abbrev pub line_or : Line → Option ScriptKind → Result (Option Line) ScriptKind
+line_or line None = Ok (Some line)
+line_or line (Some kind) = Err kind
 
 -- what a line that was read says in its place, or why it isn't legal there
-abbrev pub judged_line : Logs → Result Line ScriptKind → Result Line ScriptKind
-judged_line logs (Ok line) = if is_legal logs line then Ok line else Err NotYet
+abbrev pub judged_line : Logs → Result (Option Line) ScriptKind → Result (Option Line) ScriptKind
+judged_line logs (Ok None) = Ok None
+judged_line logs (Ok (Some line)) = line_or line (fault_of logs line)
 judged_line logs (Err kind) = Err kind
 
-abbrev pub judged : Logs → Row → Result Line ScriptKind
+abbrev pub judged : Logs → Row → Result (Option Line) ScriptKind
 judged logs row = judged_line logs (said_by row)

@@ -1,5 +1,6 @@
 pub mod Book
 pub mod Copies
+pub mod Effects
 pub mod Keeping
 pub mod Legal
 pub mod Logs

@@ -1,10 +1,10 @@
--- What a world shows: its nodes, and the log of each stream.
-use Rattle.std.specs.Prelude.{ℕ, List, [], ◌∷◌, Bool, ◌&&◌, if◌then◌else◌, Option, None, Some}
+-- What a world shows: its nodes, the log of each stream, and the script's clock.
+use Rattle.std.specs.Prelude.{ℕ, List, [], ◌∷◌, Bool, false, ◌&&◌, if◌then◌else◌, Option, None, Some}
 use Rattle.std.specs.Str.{bytes_eq}
 use Rattle.std.specs.List.{list_any}
 use Rattle.stream_fold.specs.declared.config.Config.{Config}
 use Rattle.stream_fold.specs.declared.entry.Entry.{Entry}
-use Rattle.stream_fold.specs.Histories.{History}
+use Rattle.stream_fold.specs.Histories.{History, stands}
 
 -- a stream: its node, the configuration of its creation, and its log
 pub record StreamLog : Type 0 where
@@ -12,17 +12,24 @@ pub record StreamLog : Type 0 where
   pub config : Config
   pub entries : List Entry
 
--- nodes and streams, in the order in which they were made
+-- nodes and streams, in the order in which they were made, the clock in nanoseconds, and whether
+-- answers are no more printed
 pub record Logs : Type 0 where
   pub nodes : List (List ℕ)
   pub streams : List StreamLog
+  pub clock : ℕ
+  pub quiet : Bool
 
 abbrev pub no_logs : Logs
-no_logs = record { nodes = []; streams = [] }
+no_logs = record { nodes = []; streams = []; clock = 0; quiet = false }
 
 -- the history of a stream
 abbrev pub history_of : StreamLog → History
 history_of s = record { config = s.config; entries = s.entries }
+
+-- the configuration in force
+abbrev pub limits_of : StreamLog → Config
+limits_of s = (stands (history_of s)).limits
 
 abbrev pub is_at : List ℕ → List ℕ → StreamLog → Bool
 is_at node name s = bytes_eq s.node node && bytes_eq s.config.name name

@@ -1,69 +1,87 @@
 -- What a line does to the logs: its own operation, and what copying may add.
-use Rattle.std.specs.Prelude.{◌≡◌, ℕ, ◌+◌, List, [], ◌∷◌, ◌++◌, if◌then◌else◌, Option, None, Some}
+use Rattle.std.specs.Prelude.{◌≡◌, ℕ, Bool, true, List, [], ◌∷◌, ◌++◌, if◌then◌else◌, Option, None, Some}
 use Rattle.nats_text.specs.Headers.{no_headers}
-use Rattle.nats_text.specs.declared.message.Start.TheVariants.{Seq}
-use Rattle.nats_text.specs.declared.origin.Origin.{Origin}
 use Rattle.stream_fold.specs.declared.config.Config.{Config}
-use Rattle.stream_fold.specs.declared.config.Discard.TheVariants.{Old}
 use Rattle.stream_fold.specs.declared.config.Copies.{Copies}
 use Rattle.stream_fold.specs.declared.config.Copies.TheVariants.{Nothing, Mirror as MirrorOf, Sources}
 use Rattle.stream_fold.specs.declared.entry.Mark.{Mark}
 use Rattle.stream_fold.specs.declared.entry.Entry.{Entry}
 use Rattle.stream_fold.specs.declared.entry.Entry.TheVariants.{Put, Del, Purge, Expire, Bind, Limits}
-use Rattle.stream_fold.specs.Histories.{last}
 use Rattle.leafd_script.specs.declared.line.Line.{Line}
-use Rattle.leafd_script.specs.declared.line.Line.TheVariants.{Node, Stream, Mirror, Publish, Settle, Show}
-use Rattle.leafd_cli.specs.Logs.{StreamLog, Logs, is_at, stream_at}
-use Rattle.leafd_cli.specs.Legal.{subject_or}
+use Rattle.leafd_script.specs.declared.line.Line.TheVariants.{Node, Stream, Mirror, Update, Publish, PublishWithHeaders, Delete, Purge as PurgeLine, Expire as ExpireLine, Clock, Settle, Show, Log, Heads, Quiet}
+use Rattle.leafd_cli.specs.declared.operation.Operation.{Operation}
+use Rattle.leafd_cli.specs.declared.operation.Operation.TheVariants.{Publish as PublishOf, Delete as DeleteOf, Purge as PurgeOf, Expire as ExpireNow, Update as UpdateOf}
+use Rattle.leafd_cli.specs.Logs.{StreamLog, Logs, is_at}
+use Rattle.leafd_cli.specs.Effects.{effect}
 
--- a configuration without limits: the duplicate window is two minutes
-abbrev pub plain_config : List ℕ → List (List ℕ) → Copies → Config
-plain_config name subjects copies = record { name = name; subjects = subjects; max_msgs = 0; max_bytes = 0; max_age = 0; max_per_subject = 0; max_msg_size = 0; discard = Old; window = 120000000000; transform = None; copies = copies }
+-- an operation on the stream of this name on this node
+pub record Task : Type 0 where
+  pub node : List ℕ
+  pub name : List ℕ
+  pub operation : Operation
 
-abbrev pub stream_config : List ℕ → Option (List ℕ) → Config
-stream_config name subject = plain_config name (subject_or subject name ∷ []) Nothing
-
--- the whole of a stream on another node, from its first number on
-abbrev pub origin_at : List ℕ → List ℕ → Origin
-origin_at node name = record { node = Some node; stream = name; start = Seq 1; filter = None; maps = [] }
-
-abbrev pub mirror_config : List ℕ → List ℕ → List ℕ → Config
-mirror_config name origin_node origin = plain_config name [] (MirrorOf (origin_at origin_node origin))
+-- the operation of a line that works on one stream
+abbrev pub task_of : Line → Option Task
+task_of (Node node) = None
+task_of (Stream node config) = None
+task_of (Mirror node config) = None
+task_of (Update node name changes) = Some (record { node = node; name = name; operation = UpdateOf changes })
+task_of (Publish node name subject text) = Some (record { node = node; name = name; operation = PublishOf subject no_headers text })
+task_of (PublishWithHeaders node name subject headers text) = Some (record { node = node; name = name; operation = PublishOf subject headers text })
+task_of (Delete node name seq) = Some (record { node = node; name = name; operation = DeleteOf seq })
+task_of (PurgeLine node name pattern below) = Some (record { node = node; name = name; operation = PurgeOf pattern below })
+task_of (ExpireLine node name) = Some (record { node = node; name = name; operation = ExpireNow })
+task_of (Clock moment) = None
+task_of Settle = None
+task_of (Show node name) = None
+task_of (Log node name) = None
+task_of Heads = None
+task_of Quiet = None
 
 abbrev pub new_stream : List ℕ → Config → StreamLog
 new_stream node config = record { node = node; config = config; entries = [] }
 
--- the number that a publish gets: one past the last
-abbrev pub next_number : Option StreamLog → ℕ
-next_number None = 1
-next_number (Some s) = last s.entries + 1
+-- the stream that a line makes
+abbrev pub made_by : Line → List StreamLog
+made_by (Stream node config) = new_stream node config ∷ []
+made_by (Mirror node config) = new_stream node config ∷ []
+made_by _ = []
 
--- the entry of a publish: the next number, at the script's clock, without a mark
-abbrev pub published : ℕ → List ℕ → List ℕ → Entry
-published number subject text = Put number (record { subject = subject; headers = no_headers; payload = text; time = 0 }) None
+abbrev pub with_entry : Option Entry → StreamLog → StreamLog
+with_entry None s = s
+with_entry (Some entry) s = record s { entries = s.entries ++ entry ∷ [] }
 
--- the streams with one entry more in one of them
-abbrev pub with_entry_in : List ℕ → List ℕ → Entry → List StreamLog → List StreamLog
-with_entry_in node name entry [] = []
-with_entry_in node name entry (s ∷ streams) = if is_at node name s then record s { entries = s.entries ++ entry ∷ [] } ∷ streams else s ∷ with_entry_in node name entry streams
+-- a stream on which an operation was done
+abbrev pub worked : ℕ → Operation → StreamLog → StreamLog
+worked now operation s = with_entry (effect now operation s).entry s
+
+-- the streams after an operation on one of them
+abbrev pub worked_in : ℕ → Task → List StreamLog → List StreamLog
+worked_in now task [] = []
+worked_in now task (s ∷ streams) = if is_at task.node task.name s then worked now task.operation s ∷ streams else s ∷ worked_in now task streams
+
+abbrev pub worked_if : ℕ → Option Task → List StreamLog → List StreamLog
+worked_if now None streams = streams
+worked_if now (Some task) streams = worked_in now task streams
+
+-- the streams with what the line itself makes: a stream, or an entry of one
+abbrev pub operated : Logs → Line → List StreamLog
+operated logs line = worked_if logs.clock (task_of line) logs.streams ++ made_by line
 
 -- the nodes after a line
 abbrev pub nodes_after : Logs → Line → List (List ℕ)
 nodes_after logs (Node node) = logs.nodes ++ node ∷ []
-nodes_after logs (Stream node name subject) = logs.nodes
-nodes_after logs (Mirror node name origin_node origin) = logs.nodes
-nodes_after logs (Publish node name subject text) = logs.nodes
-nodes_after logs Settle = logs.nodes
-nodes_after logs (Show node name) = logs.nodes
+nodes_after logs _ = logs.nodes
 
--- the streams with the record of the line's own operation
-abbrev pub operated : Logs → Line → List StreamLog
-operated logs (Node node) = logs.streams
-operated logs (Stream node name subject) = logs.streams ++ new_stream node (stream_config name subject) ∷ []
-operated logs (Mirror node name origin_node origin) = logs.streams ++ new_stream node (mirror_config name origin_node origin) ∷ []
-operated logs (Publish node name subject text) = with_entry_in node name (published (next_number (stream_at node name logs.streams)) subject text) logs.streams
-operated logs Settle = logs.streams
-operated logs (Show node name) = logs.streams
+-- the clock after a line
+abbrev pub clock_after : Logs → Line → ℕ
+clock_after logs (Clock moment) = moment
+clock_after logs _ = logs.clock
+
+-- whether answers are no more printed after a line
+abbrev pub quiet_after : Logs → Line → Bool
+quiet_after logs Quiet = true
+quiet_after logs _ = logs.quiet
 
 -- a message without a mark
 abbrev pub IsUnmarked : Option Mark → Type 0

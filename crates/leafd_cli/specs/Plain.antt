@@ -2,6 +2,7 @@
 -- until `settle`, where each copy takes what its origin keeps, in the order in which they were made.
 use Rattle.std.specs.Prelude.{ℕ, List, [], ◌∷◌, ◌++◌, length, slice_set, slice_index_or, map, filter, nat_lt, Option, None, Some}
 use Prim.Native.Nat.{zero, suc}
+use Rattle.stream_fold.specs.declared.config.Discard.TheVariants.{Old}
 use Rattle.stream_fold.specs.declared.config.Copies.{Copies}
 use Rattle.stream_fold.specs.declared.config.Copies.TheVariants.{Nothing, Mirror as MirrorOf, Sources}
 use Rattle.stream_fold.specs.declared.entry.Entry.{Entry}
@@ -11,10 +12,10 @@ use Rattle.stream_fold.specs.declared.entry.BoundTo.{BoundTo}
 use Rattle.stream_fold.specs.Histories.{last, kept}
 use Rattle.stream_fold.specs.Copying.{bound}
 use Rattle.leafd_script.specs.declared.line.Line.{Line}
-use Rattle.leafd_script.specs.declared.line.Line.TheVariants.{Node, Stream, Mirror, Publish, Settle, Show}
+use Rattle.leafd_script.specs.declared.line.Line.TheVariants.{Settle}
 use Rattle.leafd_cli.specs.Logs.{StreamLog, Logs, no_logs, history_of}
-use Rattle.leafd_cli.specs.Operations.{nodes_after, operated, plain_config}
-use Rattle.leafd_cli.specs.Copies.{origin_of}
+use Rattle.leafd_cli.specs.Legal.{origin_of}
+use Rattle.leafd_cli.specs.Operations.{nodes_after, clock_after, quiet_after, operated, new_stream}
 
 -- the entry of a copied message
 abbrev pub copied_entry : Numbered → Entry
@@ -55,7 +56,7 @@ settled_stream streams s = fed (missing streams s) s
 
 -- what no place past the last holds
 abbrev pub no_stream : StreamLog
-no_stream = record { node = []; config = plain_config [] [] Nothing; entries = [] }
+no_stream = new_stream [] (record { name = []; subjects = []; max_msgs = 0; max_bytes = 0; max_age = 0; max_per_subject = 0; max_msg_size = 0; discard = Old; window = 0; transform = None; copies = Nothing })
 
 -- the streams after the one at a place has taken what it can
 abbrev pub settle_at : ℕ → List StreamLog → List StreamLog
@@ -67,15 +68,15 @@ settled_upto zero streams = streams
 settled_upto (suc k) streams = settle_at k (settled_upto k streams)
 
 abbrev pub streams_after : Logs → Line → List StreamLog
-streams_after logs (Node node) = operated logs (Node node)
-streams_after logs (Stream node name subject) = operated logs (Stream node name subject)
-streams_after logs (Mirror node name origin_node origin) = operated logs (Mirror node name origin_node origin)
-streams_after logs (Publish node name subject text) = operated logs (Publish node name subject text)
 streams_after logs Settle = settled_upto (length logs.streams) logs.streams
-streams_after logs (Show node name) = logs.streams
+streams_after logs line = operated logs line
 
 abbrev pub step : Logs → Line → Logs
-step logs line = record { nodes = nodes_after logs line; streams = streams_after logs line }
+step logs line = record { nodes = nodes_after logs line; streams = streams_after logs line; clock = clock_after logs line; quiet = quiet_after logs line }
+
+abbrev pub step_on : Logs → Option Line → Logs
+step_on logs None = logs
+step_on logs (Some line) = step logs line
 
 -- a script that has come so far: the logs, and the number of the next line
 pub record Progress : Type 0 where

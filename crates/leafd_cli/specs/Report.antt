@@ -1,18 +1,25 @@
 -- What each line of a script prints.
-use Rattle.std.specs.Prelude.{ℕ, List, [], ◌∷◌, ◌++◌, length, Option, None, Some, codes, decimal}
+use Rattle.std.specs.Prelude.{ℕ, List, [], ◌∷◌, ◌++◌, length, Bool, if◌then◌else◌, Option, None, Some, filter, codes, decimal}
+use Rattle.std.specs.Str.{bytes_eq}
 use Rattle.std.specs.List.{flat_map}
 use Rattle.hex.specs.Hex.{encode_lower}
+use Rattle.nats_text.specs.declared.headers.Pair.{Pair}
+use Rattle.nats_text.specs.declared.message.Message.{Message}
 use Rattle.nats_text.specs.declared.origin.Origin.{Origin}
 use Rattle.stream_fold.specs.declared.config.Copies.{Copies}
 use Rattle.stream_fold.specs.declared.config.Copies.TheVariants.{Nothing, Mirror as MirrorOf, Sources}
+use Rattle.stream_fold.specs.declared.entry.Mark.{Mark}
+use Rattle.stream_fold.specs.declared.entry.Entry.{Entry}
+use Rattle.stream_fold.specs.declared.entry.Entry.TheVariants.{Put, Del, Purge, Expire, Bind, Limits}
 use Rattle.stream_fold.specs.declared.entry.Numbered.{Numbered}
 use Rattle.stream_fold.specs.Histories.{kept, last}
 use Rattle.stream_fold.specs.Copying.{front}
 use Rattle.stream_fold.specs.Held.{first_of}
 use Rattle.leafd_script.specs.declared.line.Line.{Line}
-use Rattle.leafd_script.specs.declared.line.Line.TheVariants.{Node, Stream, Mirror, Publish, Settle, Show}
+use Rattle.leafd_script.specs.declared.line.Line.TheVariants.{Stream, Mirror, Show, Log, Heads}
 use Rattle.leafd_cli.specs.Logs.{StreamLog, Logs, history_of, stream_at}
-use Rattle.leafd_cli.specs.Operations.{next_number}
+use Rattle.leafd_cli.specs.Effects.{answer_at, counted}
+use Rattle.leafd_cli.specs.Operations.{Task, task_of}
 
 -- the number of a line, a space, and its answer
 abbrev pub answer : ℕ → List ℕ → List ℕ
@@ -23,9 +30,20 @@ abbrev pub hex_text : List ℕ → List ℕ
 hex_text [] = 45 ∷ []
 hex_text (b ∷ bs) = encode_lower (b ∷ bs)
 
--- a kept message: its number, time, subject and payload
+-- a message and its number: the number, the time, the subject and the payload
+abbrev pub message_text : ℕ → Message → List ℕ
+message_text seq m = decimal seq ++ 32 ∷ (decimal m.time ++ 32 ∷ (m.subject ++ 32 ∷ hex_text m.payload))
+
+-- a header behind two spaces
+abbrev pub pair_text : Pair → List ℕ
+pair_text pair = 32 ∷ 32 ∷ (pair.name ++ 58 ∷ 32 ∷ (pair.value ++ 10 ∷ []))
+
+abbrev pub pairs_text : Message → List ℕ
+pairs_text m = flat_map pair_text m.headers.pairs
+
+-- a kept message, and its headers under it
 abbrev pub row_text : Numbered → List ℕ
-row_text row = decimal row.seq ++ 32 ∷ (decimal row.message.time ++ 32 ∷ (row.message.subject ++ 32 ∷ (hex_text row.message.payload ++ 10 ∷ [])))
+row_text row = message_text row.seq row.message ++ 10 ∷ pairs_text row.message
 
 abbrev pub node_text : Option (List ℕ) → List ℕ
 node_text None = []
@@ -47,20 +65,68 @@ title_text s = codes "stream " ++ (s.node ++ 32 ∷ s.config.name)
 abbrev pub counts_text : StreamLog → List ℕ
 counts_text s = codes " first " ++ (decimal (first_of (kept (history_of s)) (last s.entries)) ++ (codes " last " ++ (decimal (last s.entries) ++ (codes " kept " ++ (decimal (length (kept (history_of s))) ++ 10 ∷ [])))))
 
--- the first line of a stream: its node and name, the first and last number, and how many are kept
+-- how far a stream has come: its node and name, the first and last number, how many are kept, and
+-- the lines of its origins
 abbrev pub head_text : StreamLog → List ℕ
-head_text s = title_text s ++ counts_text s
+head_text s = title_text s ++ (counts_text s ++ origins_text s s.config.copies)
 
 -- what `show` prints
 abbrev pub show_text : Option StreamLog → List ℕ
 show_text None = []
-show_text (Some s) = head_text s ++ (origins_text s s.config.copies ++ flat_map row_text (kept (history_of s)))
+show_text (Some s) = head_text s ++ flat_map row_text (kept (history_of s))
 
--- what a line prints, from the logs before it and those after it
-abbrev pub printed : ℕ → Logs → Line → Logs → List ℕ
-printed number old (Node node) new = []
-printed number old (Stream node name subject) new = answer number (codes "made")
-printed number old (Mirror node name origin_node origin) new = answer number (codes "made")
-printed number old (Publish node name subject text) new = answer number (codes "stored " ++ decimal (next_number (stream_at node name old.streams)))
-printed number old Settle new = []
-printed number old (Show node name) new = show_text (stream_at node name new.streams)
+abbrev pub mark_text : Option Mark → List ℕ
+mark_text None = []
+mark_text (Some mark) = counted (counted (codes " mark") mark.index) mark.seq
+
+-- an entry of a log
+abbrev pub entry_text : Entry → List ℕ
+entry_text (Put seq message mark) = codes "put " ++ (message_text seq message ++ (mark_text mark ++ 10 ∷ pairs_text message))
+entry_text (Del seq) = counted (codes "del") seq ++ 10 ∷ []
+entry_text (Purge pattern below) = codes "purge " ++ (counted pattern below ++ 10 ∷ [])
+entry_text (Expire now) = counted (codes "expire") now ++ 10 ∷ []
+entry_text (Bind index incarnation start) = counted (counted (counted (codes "bind") index) incarnation) start ++ 10 ∷ []
+entry_text (Limits config) = codes "limits" ++ 10 ∷ []
+
+-- a log's node and name, and how many entries it has
+abbrev pub log_title : StreamLog → List ℕ
+log_title s = codes "log " ++ (s.node ++ 32 ∷ (counted s.config.name (length s.entries) ++ 10 ∷ []))
+
+-- what `log` prints: the title, and each entry
+abbrev pub log_text : Option StreamLog → List ℕ
+log_text None = []
+log_text (Some s) = log_title s ++ flat_map entry_text s.entries
+
+-- the streams of a node, in the order in which they were made
+abbrev pub streams_on : List StreamLog → List ℕ → List StreamLog
+streams_on streams node = filter (λ s. bytes_eq s.node node) streams
+
+-- what `heads` prints: how far each stream has come, node by node
+abbrev pub heads_text : List (List ℕ) → List StreamLog → List ℕ
+heads_text nodes streams = flat_map (λ node. flat_map head_text (streams_on streams node)) nodes
+
+-- an answer, unless answers are no more printed
+abbrev pub answer_if : Bool → ℕ → List ℕ → List ℕ
+answer_if quiet number text = if quiet then [] else answer number text
+
+abbrev pub answer_text : Bool → ℕ → Option (List ℕ) → List ℕ
+answer_text quiet number None = []
+answer_text quiet number (Some text) = answer_if quiet number text
+
+-- the answer of an operation on a stream
+abbrev pub task_text : Logs → ℕ → Option Task → List ℕ
+task_text logs number None = []
+task_text logs number (Some task) = answer_text logs.quiet number (answer_at logs.clock task.operation (stream_at task.node task.name logs.streams))
+
+-- what a line prints besides the answer of an operation on a stream
+abbrev pub own_text : Logs → ℕ → Line → List ℕ
+own_text logs number (Stream node config) = answer_if logs.quiet number (codes "made")
+own_text logs number (Mirror node config) = answer_if logs.quiet number (codes "made")
+own_text logs number (Show node name) = show_text (stream_at node name logs.streams)
+own_text logs number (Log node name) = log_text (stream_at node name logs.streams)
+own_text logs number Heads = heads_text logs.nodes logs.streams
+own_text logs number _ = []
+
+-- what a line prints, from the logs before it: no line that prints a log changes one
+abbrev pub printed : ℕ → Logs → Line → List ℕ
+printed number logs line = task_text logs number (task_of line) ++ own_text logs number line

@@ -1,9 +1,8 @@
 -- The lines of a script's text, and what each says.
-use Rattle.std.specs.Prelude.{ℕ, ◌-◌, List, [], ◌∷◌, length, slice_index, Bool, true, false, ◌&&◌, ◌==◌, nat_lt, if◌then◌else◌, Result, Err}
+use Rattle.std.specs.Prelude.{ℕ, ◌-◌, List, [], ◌∷◌, length, take, slice_index, Bool, true, false, ◌&&◌, ◌==◌, nat_lt, if◌then◌else◌, Option, Result}
 use Rattle.nats_text.specs.Pieces.{pieces}
 use Rattle.leafd_script.specs.declared.line.Line.{Line}
 use Rattle.leafd_script.specs.declared.fault.ScriptKind.{ScriptKind}
-use Rattle.leafd_script.specs.declared.fault.ScriptKind.TheVariants.{NotYet}
 use Rattle.leafd_script.specs.Lines.{line_of}
 
 -- a line, and whether a line feed ended it
@@ -31,6 +30,10 @@ rows_of text = rows_from (pieces 10 text)
 abbrev pub ends_in_return : List ℕ → Bool
 ends_in_return bytes = nat_lt 0 (length bytes) && slice_index bytes (length bytes - 1) == 13
 
--- what a line says; lines with a carriage return before their line feed aren't built yet
-abbrev pub said_by : Row → Result Line ScriptKind
-said_by row = if row.ended && ends_in_return row.bytes then Err NotYet else line_of row.bytes
+-- one carriage return before a line feed doesn't count
+abbrev pub text_of : Row → List ℕ
+text_of row = if row.ended && ends_in_return row.bytes then take (length row.bytes - 1) row.bytes else row.bytes
+
+-- what a line says, which is nothing where it is empty or a comment
+abbrev pub said_by : Row → Result (Option Line) ScriptKind
+said_by row = line_of (text_of row)

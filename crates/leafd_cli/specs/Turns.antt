@@ -5,33 +5,46 @@ use Rattle.leaf_edges.specs.Causes.{AppendsPrefix}
 use Rattle.leaf_edges.specs.declared.fault.EdgeError.{EdgeError}
 use Rattle.leafd_script.specs.declared.line.Line.{Line}
 use Rattle.leafd_script.specs.declared.fault.ScriptKind.{ScriptKind}
+use Rattle.leafd_script.specs.declared.fault.LineFault.{LineFault}
 use Rattle.leafd_cli.specs.declared.drill.Stop.{Stop}
 use Rattle.leafd_cli.specs.declared.status.Status.{Status}
 use Rattle.leafd_cli.specs.declared.status.Status.TheVariants.{Done, ScriptFault, Usage, ReadFault, WriteFault, NoMemory, ScriptTooLong}
 use Rattle.leafd_cli.specs.Logs.{Logs, no_logs}
 use Rattle.leafd_cli.specs.Rows.{Row, rows_of}
-use Rattle.leafd_cli.specs.Legal.{judged}
-use Rattle.leafd_cli.specs.Report.{printed}
-use Rattle.leafd_cli.specs.Book.{Leads, BookOk, last_logs}
+use Rattle.leafd_cli.specs.Legal.{judged, fault_of}
+use Rattle.leafd_cli.specs.Book.{LeadsOn, row_text, BookOk, last_logs}
 use Rattle.leafd_cli.specs.Plain.{Progress}
-use Rattle.leafd_cli.specs.Keeping.{IsKept}
+use Rattle.leafd_cli.specs.Keeping.{IsKept, IsWellMade}
+
+-- what was read is legal in its place
+abbrev pub IsLegalOn : Logs → Option Line → Type 0
+IsLegalOn logs None = Unit {0}
+IsLegalOn logs (Some line) = fault_of logs line ≡ None
+
+abbrev pub IsLegal : Logs → Result (Option Line) LineFault → Type 0
+IsLegal logs (Ok said) = IsLegalOn logs said
+IsLegal logs (Err fault) = Unit {0}
+
+abbrev pub IsWellMadeOn : Option Line → Type 0
+IsWellMadeOn None = Unit {0}
+IsWellMadeOn (Some line) = IsWellMade line
 
 -- a line was taken, led as a book says, and its text was written
 pub record Takes (old : Progress) (row : Row) (new : Progress) (before after : Option (List ℕ)) : Type 0 where
-  pub line : Line
-  pub said : judged old.logs row ≡ Ok line
-  pub leads : Leads old.logs line new.logs
+  pub said : Option Line
+  pub legal : judged old.logs row ≡ Ok said
+  pub leads : LeadsOn old.logs said new.logs
   pub number : new.number ≡ old.number + 1
-  pub written : Appends before after (printed old.number old.logs line new.logs)
-  pub kept : IsKept new.number new.logs.streams
+  pub written : Appends before after (row_text old.number old.logs said)
+  pub kept : IsKept new.logs.streams
 
 -- a line of whose text a prefix was written
 pub record Breaks (old : Progress) (row : Row) (before after : Option (List ℕ)) : Type 0 where
-  pub line : Line
-  pub said : judged old.logs row ≡ Ok line
+  pub said : Option Line
+  pub legal : judged old.logs row ≡ Ok said
   pub logs : Logs
-  pub leads : Leads old.logs line logs
-  pub written : AppendsPrefix before after (printed old.number old.logs line logs)
+  pub leads : LeadsOn old.logs said logs
+  pub written : AppendsPrefix before after (row_text old.number old.logs said)
 
 -- a line that isn't legal in its place changes nothing
 pub record Refuses (old : Progress) (row : Row) (new : Progress) (before after : Option (List ℕ)) (kind : ScriptKind) : Type 0 where
@@ -51,7 +64,7 @@ pub record IsBooked (done : List Row) (report : List ℕ) (p : Progress) : Type 
   pub right : BookOk done report book
   pub last : last_logs no_logs book ≡ p.logs
   pub number : p.number ≡ length done + 1
-  pub kept : IsKept p.number p.logs.streams
+  pub kept : IsKept p.logs.streams
 
 -- there is a book for a front of the lines, before the rest, and its report was written
 pub record HasCome (text rest : List ℕ) (p : Progress) (before after : Option (List ℕ)) : Type 0 where

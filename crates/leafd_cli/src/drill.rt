@@ -1,15 +1,14 @@
-ghost use Rattle.std.specs.Prelude.{◌≡◌, ◌≤◌, ◌<◌, ◌-◌, ◌^◌, length, IfOk};
+ghost use Rattle.std.specs.Prelude.{◌≡◌, ◌≤◌, ◌<◌, ◌-◌, ◌^◌, length, IfOk, OnOk};
 ghost use Rattle.leaf_edges.specs.Causes.{Causes};
 ghost use Rattle.leafd_script.specs.Words.{Gives};
-ghost use Rattle.leafd_script.specs.Lines.{line_of};
-ghost use Rattle.leafd_cli.specs.Rows.{said_by, ends_in_return};
+ghost use Rattle.leafd_script.specs.Lines.{IfLine};
+ghost use Rattle.leafd_cli.specs.Rows.{text_of, ends_in_return};
 ghost use Rattle.leafd_cli.specs.Legal.{judged};
-ghost use Rattle.leafd_cli.specs.Report.{printed};
-ghost use Rattle.leafd_cli.specs.Plain.{start, step};
-ghost use Rattle.leafd_cli.specs.Keeping.{IsKept};
-ghost use Rattle.leafd_cli.specs.Turns.{IsTurn, IsRan};
+ghost use Rattle.leafd_cli.specs.Book.{row_text};
+ghost use Rattle.leafd_cli.specs.Plain.{start, step_on};
+ghost use Rattle.leafd_cli.specs.Keeping.{IsKept, IsWellMade};
+ghost use Rattle.leafd_cli.specs.Turns.{IsTurn, IsRan, IsLegal, IsLegalOn, IsWellMadeOn};
 
-use crate::report::print;
 use crate::world::World;
 use leaf_edges::{EdgeError, Sink, pump_all};
 use leafd_script::{Line, LineFault, ScriptKind, read_line};
@@ -65,23 +64,19 @@ impl Drill {
         ended: bool,
     ) -> Result<Option<ScriptKind>, EdgeError>
         requires number { self.old.number < 2 ^ 63 }
-        requires kept { IsKept self.old.number self.old.logs.streams }
+        requires kept { IsKept self.old.logs.streams }
         ensures turn { IsTurn self.old (record { bytes = line.now; ended = ended }) self.new (O.taken out.old) (O.taken out.new) result }
         ensures cause { Causes (O.faults out.old) (O.faults out.new) result }
     {
-        let line = match self.judged(line, ended) {
-            Ok(line) => line,
+        let said = match self.judged(line, ended) {
+            Ok(said) => said,
             Err(LineFault::Bad { kind }) => return Ok(Some(kind)),
             Err(LineFault::NoMemory) => return Err(EdgeError::NoMemory),
         };
-        let text = match self.text_of(&line) {
+        let text = match self.step(said) {
             Ok(text) => text,
             Err(NoMemory) => return Err(EdgeError::NoMemory),
         };
-        match self.world.step(self.alloc, line) {
-            Ok(()) => {}
-            Err(NoMemory) => return Err(EdgeError::NoMemory),
-        }
         self.number += 1;
         match pump_all(out, &text) {
             Ok(()) => Ok(None),
@@ -90,56 +85,51 @@ impl Drill {
     }
 
     /// What a line says in its place.
-    fn judged(&self, line: &[u8], ended: bool) -> Result<Line, LineFault>
-        ensures { Gives result (judged self.now.logs (record { bytes = line.now; ended = ended })) }
+    fn judged(&self, line: &[u8], ended: bool) -> Result<Option<Line>, LineFault>
+        ensures said { Gives result (judged self.now.logs (record { bytes = line.now; ended = ended })) }
+        ensures made { IfLine result IsWellMade }
+        ensures legal { IsLegal self.now.logs result }
     {
-        let line = said_by(self.alloc, line, ended)?;
-        if self.world.allows(&line)? {
-            Ok(line)
-        } else {
-            Err(LineFault::Bad {
-                kind: ScriptKind::NotYet,
-            })
+        let Some(line) = read_line(self.alloc, text_of(line, ended))? else {
+            return Ok(None);
+        };
+        match self.world.fault_of(self.alloc, &line)? {
+            None => Ok(Some(line)),
+            Some(kind) => Err(LineFault::Bad { kind }),
         }
     }
 
-    /// What a legal line prints.
-    fn text_of(&self, line: &Line) -> Result<Vec<u8>, NoMemory>
-        ensures { IfOk result (λ text. text.items ≡ printed self.now.number self.now.logs line.now (step self.now.logs line.now)) }
+    /// Does what a line says, and answers what it prints.
+    fn step(&mut self, said: Option<Line>) -> Result<Vec<u8>, NoMemory>
+        requires legal { IsLegalOn self.old.logs said }
+        requires made { IsWellMadeOn said }
+        requires kept { IsKept self.old.logs.streams }
+        ensures number { self.new.number ≡ self.old.number }
+        ensures logs { OnOk result (self.new.logs ≡ step_on self.old.logs said) }
+        ensures text { IfOk result (λ text. text.items ≡ row_text self.old.number self.old.logs said) }
     {
-        let mut text = Vec::new(self.alloc);
-        print(self.alloc, &mut text, self.number, &self.world, line)?;
-        Ok(text)
+        match said {
+            None => Ok(Vec::new(self.alloc)),
+            Some(line) => self.world.step(self.alloc, self.number, line),
+        }
     }
 }
 
-fn said_by(alloc: Global, line: &[u8], ended: bool) -> Result<Line, LineFault>
-    ensures { Gives result (said_by (record { bytes = line.now; ended = ended })) }
+/// A line without one carriage return before its line feed.
+fn text_of(line: &[u8], ended: bool) -> &[u8]
+    ensures { result.now ≡ text_of (record { bytes = line.now; ended = ended }) }
 {
     if ended && ends_in_return(line) {
-        return Err(LineFault::Bad {
-            kind: ScriptKind::NotYet,
-        });
+        &line[..line.len() - 1]
+    } else {
+        line
     }
-    read_form(alloc, line)
 }
 
 fn ends_in_return(line: &[u8]) -> bool
     ensures { result ≡ ends_in_return line.now }
 {
     !line.is_empty() && line[line.len() - 1] == b'\r'
-}
-
-fn read_form(alloc: Global, line: &[u8]) -> Result<Line, LineFault>
-    ensures { Gives result (line_of line.now) }
-{
-    match read_line(alloc, line) {
-        Ok(Some(line)) => Ok(line),
-        Ok(None) => Err(LineFault::Bad {
-            kind: ScriptKind::NotYet,
-        }),
-        Err(fault) => Err(fault),
-    }
 }
 
 /// Runs a script up to the first line that isn't legal in its place, and answers where that is.

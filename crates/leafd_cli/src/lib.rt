@@ -1,14 +1,19 @@
 //! The commands of `leafd`: `drill` runs a script and prints the report of a right book.
 #![tactic(auto)]
 
-mod configs;
 mod drill;
+mod effects;
+mod finding;
 mod input;
+mod legal;
+mod operation;
 mod report;
+mod settle;
 mod shard;
 mod status;
 mod stream;
 mod tell;
+mod texts;
 mod top;
 mod world;
 

@@ -1,73 +1,25 @@
-ghost use Rattle.std.specs.Prelude.{◌≡◌, ◌<◌, ◌^◌, ◌++◌, Some, IfOk, OnOk, codes, decimal};
+ghost use Rattle.std.specs.Prelude.{◌≡◌, ◌++◌, ◌∷◌, [], IfOk, OnOk};
 ghost use Rattle.std.specs.List.{flat_map};
-ghost use Rattle.leafd_cli.specs.Logs.{stream_at};
-ghost use Rattle.leafd_cli.specs.Operations.{next_number};
-ghost use Rattle.leafd_cli.specs.Report.{answer, hex_text, row_text, origins_text, front_text, node_text, title_text, counts_text, head_text, show_text, printed};
-ghost use Rattle.leafd_cli.specs.Plain.{step};
+ghost use Rattle.std.specs.Option.{option_copied};
+ghost use Rattle.leafd_cli.specs.Effects.{counted};
+ghost use Rattle.leafd_cli.specs.Report.{log_title, answer, answer_if, row_text, message_text, pair_text, pairs_text, origins_text, front_text, node_text, title_text, counts_text, head_text, show_text, mark_text, entry_text, log_text, streams_on, heads_text};
 
 use crate::stream::Stream;
-use crate::world::World;
-use itoa::Buffer;
-use leafd_script::Line;
-use nats_text::{Name, NoMemory, Origin};
+use crate::texts::{push_counted, push_hex, push_number, push_text};
+use nats_text::{Message, Name, NoMemory, Origin, Pair};
 use std::alloc::Global;
-use stream_fold::{Copies, Numbered};
+use stream_fold::{Copies, Entry, Mark, Numbered};
 
-/// Adds what a legal line prints, before it is done.
-pub fn print(
-    alloc: Global,
-    report: &mut Vec<u8>,
-    number: u64,
-    world: &World,
-    line: &Line,
-) -> Result<(), NoMemory>
-    ensures { OnOk result (report.new.items ≡ report.old.items ++ printed number world.now line.now (step world.now line.now)) }
+/// An answer, unless answers are no more printed.
+pub fn answer(alloc: Global, quiet: bool, number: u64, text: &[u8]) -> Result<Vec<u8>, NoMemory>
+    ensures { IfOk result (λ report. report.items ≡ answer_if quiet number text.now) }
 {
-    match line {
-        Line::Node { .. } => Ok(()),
-        Line::Stream { .. } => push_answer(report, number, b"made"),
-        Line::Mirror { .. } => push_answer(report, number, b"made"),
-        Line::Publish { node, name, .. } => {
-            push_stored(report, number, next_number(world, node, name))
-        }
-        Line::Settle => Ok(()),
-        Line::Show { node, name } => match world.stream_at(node, name) {
-            None => Ok(()),
-            Some(stream) => push_stream(alloc, report, stream),
-        },
+    let mut report = Vec::new(alloc);
+    if quiet {
+        return Ok(report);
     }
-}
-
-fn next_number(world: &World, node: &Name, name: &Name) -> u64
-    ensures { result ≡ next_number (stream_at node.now name.now world.now.streams) }
-{
-    match world.stream_at(node, name) {
-        None => 1,
-        Some(stream) => stream.last() + 1,
-    }
-}
-
-fn push_stored(report: &mut Vec<u8>, number: u64, seq: u64) -> Result<(), NoMemory>
-    ensures { OnOk result (report.new.items ≡ report.old.items ++ answer number (codes "stored " ++ decimal seq)) }
-{
-    push_number(report, number)?;
-    push_text(report, b" stored ")?;
-    push_number(report, seq)?;
-    push_text(report, b"\n")
-}
-
-fn push_number(report: &mut Vec<u8>, number: u64) -> Result<(), NoMemory>
-    ensures { OnOk result (report.new.items ≡ report.old.items ++ decimal number) }
-{
-    let mut digits = Buffer::new();
-    push_text(report, digits.format(number).as_bytes())
-}
-
-fn push_text(report: &mut Vec<u8>, text: &[u8]) -> Result<(), NoMemory>
-    ensures { OnOk result (report.new.items ≡ report.old.items ++ text.now) }
-{
-    report.extend_from_slice(text)?;
-    Ok(())
+    push_answer(&mut report, number, text)?;
+    Ok(report)
 }
 
 fn push_answer(report: &mut Vec<u8>, number: u64, text: &[u8]) -> Result<(), NoMemory>
@@ -79,27 +31,160 @@ fn push_answer(report: &mut Vec<u8>, number: u64, text: &[u8]) -> Result<(), NoM
     push_text(report, b"\n")
 }
 
-fn push_hex(alloc: Global, report: &mut Vec<u8>, bytes: &[u8]) -> Result<(), NoMemory>
-    ensures { OnOk result (report.new.items ≡ report.old.items ++ hex_text bytes.now) }
+/// What `show` prints.
+pub fn show_text(alloc: Global, stream: Option<&Stream>) -> Result<Vec<u8>, NoMemory>
+    ensures { IfOk result (λ report. report.items ≡ show_text (option_copied stream.entry)) }
 {
-    if bytes.is_empty() {
-        return push_text(report, b"-");
+    let mut report = Vec::new(alloc);
+    if let Some(stream) = stream {
+        push_head(&mut report, stream)?;
+        push_rows(alloc, &mut report, stream.rows())?;
     }
-    let text = hex::encode(alloc, bytes)?;
-    push_text(report, text.as_bytes())
+    Ok(report)
+}
+
+/// What `log` prints.
+pub fn log_text(alloc: Global, stream: Option<&Stream>) -> Result<Vec<u8>, NoMemory>
+    ensures { IfOk result (λ report. report.items ≡ log_text (option_copied stream.entry)) }
+{
+    let mut report = Vec::new(alloc);
+    if let Some(stream) = stream {
+        push_log_title(&mut report, stream)?;
+        push_entries(alloc, &mut report, stream.log())?;
+    }
+    Ok(report)
+}
+
+fn push_log_title(report: &mut Vec<u8>, stream: &Stream) -> Result<(), NoMemory>
+    ensures { OnOk result (report.new.items ≡ report.old.items ++ log_title stream.now) }
+{
+    push_text(report, b"log ")?;
+    push_text(report, stream.node().bytes())?;
+    push_text(report, b" ")?;
+    push_counted(
+        report,
+        stream.config().name.bytes(),
+        stream.log().len() as u64,
+    )?;
+    push_text(report, b"\n")
+}
+
+fn push_entries(alloc: Global, report: &mut Vec<u8>, entries: &[Entry]) -> Result<(), NoMemory>
+    ensures { OnOk result (report.new.items ≡ report.old.items ++ flat_map entry_text entries.now) }
+{
+    for entry in entries {
+        push_entry(alloc, report, entry)?;
+    }
+    Ok(())
+}
+
+fn push_entry(alloc: Global, report: &mut Vec<u8>, entry: &Entry) -> Result<(), NoMemory>
+    ensures { OnOk result (report.new.items ≡ report.old.items ++ entry_text entry.now) }
+{
+    match entry {
+        Entry::Put { seq, message, mark } => push_put(alloc, report, *seq, message, mark),
+        Entry::Del { seq } => push_line(report, b"del", *seq),
+        Entry::Purge { pattern, below } => {
+            push_text(report, b"purge ")?;
+            push_line(report, pattern.bytes(), *below)
+        }
+        Entry::Expire { now } => push_line(report, b"expire", *now),
+        Entry::Bind {
+            index,
+            incarnation,
+            start,
+        } => {
+            push_counted(report, b"bind", *index as u64)?;
+            push_text(report, b" ")?;
+            push_number(report, *incarnation)?;
+            push_text(report, b" ")?;
+            push_number(report, *start)?;
+            push_text(report, b"\n")
+        }
+        Entry::Limits { .. } => push_text(report, b"limits\n"),
+    }
+}
+
+/// A word, a space, a number and a line feed.
+fn push_line(report: &mut Vec<u8>, word: &[u8], number: u64) -> Result<(), NoMemory>
+    ensures { OnOk result (report.new.items ≡ report.old.items ++ (counted word.now number ++ 10 ∷ [])) }
+{
+    push_counted(report, word, number)?;
+    push_text(report, b"\n")
+}
+
+fn push_put(
+    alloc: Global,
+    report: &mut Vec<u8>,
+    seq: u64,
+    message: &Message,
+    mark: &Option<Mark>,
+) -> Result<(), NoMemory>
+    ensures { OnOk result (report.new.items ≡ report.old.items ++ entry_text (Entry.Put seq message.now mark.now)) }
+{
+    push_text(report, b"put ")?;
+    push_message(alloc, report, seq, message)?;
+    push_mark(report, mark)?;
+    push_text(report, b"\n")?;
+    push_pairs(report, message.headers.pairs())
+}
+
+fn push_mark(report: &mut Vec<u8>, mark: &Option<Mark>) -> Result<(), NoMemory>
+    ensures { OnOk result (report.new.items ≡ report.old.items ++ mark_text mark.now) }
+{
+    match mark {
+        None => Ok(()),
+        Some(mark) => {
+            push_counted(report, b" mark", mark.index as u64)?;
+            push_text(report, b" ")?;
+            push_number(report, mark.seq)
+        }
+    }
+}
+
+/// The number, the time, the subject and the payload.
+fn push_message(
+    alloc: Global,
+    report: &mut Vec<u8>,
+    seq: u64,
+    message: &Message,
+) -> Result<(), NoMemory>
+    ensures { OnOk result (report.new.items ≡ report.old.items ++ message_text seq message.now) }
+{
+    push_number(report, seq)?;
+    push_text(report, b" ")?;
+    push_number(report, message.time)?;
+    push_text(report, b" ")?;
+    push_text(report, message.subject.bytes())?;
+    push_text(report, b" ")?;
+    push_hex(alloc, report, message.payload.as_slice())
+}
+
+fn push_pairs(report: &mut Vec<u8>, pairs: &[Pair]) -> Result<(), NoMemory>
+    ensures { OnOk result (report.new.items ≡ report.old.items ++ flat_map pair_text pairs.now) }
+{
+    for pair in pairs {
+        push_pair(report, pair)?;
+    }
+    Ok(())
+}
+
+fn push_pair(report: &mut Vec<u8>, pair: &Pair) -> Result<(), NoMemory>
+    ensures { OnOk result (report.new.items ≡ report.old.items ++ pair_text pair.now) }
+{
+    push_text(report, b"  ")?;
+    push_text(report, pair.name.as_slice())?;
+    push_text(report, b": ")?;
+    push_text(report, pair.value.as_slice())?;
+    push_text(report, b"\n")
 }
 
 fn push_row(alloc: Global, report: &mut Vec<u8>, row: &Numbered) -> Result<(), NoMemory>
     ensures { OnOk result (report.new.items ≡ report.old.items ++ row_text row.now) }
 {
-    push_number(report, row.seq)?;
-    push_text(report, b" ")?;
-    push_number(report, row.message.time)?;
-    push_text(report, b" ")?;
-    push_text(report, row.message.subject.bytes())?;
-    push_text(report, b" ")?;
-    push_hex(alloc, report, row.message.payload.as_slice())?;
-    push_text(report, b"\n")
+    push_message(alloc, report, row.seq, &row.message)?;
+    push_text(report, b"\n")?;
+    push_pairs(report, row.message.headers.pairs())
 }
 
 fn push_rows(alloc: Global, report: &mut Vec<u8>, rows: &[Numbered]) -> Result<(), NoMemory>
@@ -109,6 +194,36 @@ fn push_rows(alloc: Global, report: &mut Vec<u8>, rows: &[Numbered]) -> Result<(
         push_row(alloc, report, row)?;
     }
     Ok(())
+}
+
+/// What `heads` prints: how far each stream has come, node by node.
+pub fn heads_text(alloc: Global, nodes: &[Name], streams: &[Stream]) -> Result<Vec<u8>, NoMemory>
+    ensures { IfOk result (λ report. report.items ≡ heads_text nodes.now streams.now) }
+{
+    let mut report = Vec::new(alloc);
+    for node in nodes {
+        push_heads_on(&mut report, streams, node)?;
+    }
+    Ok(report)
+}
+
+fn push_heads_on(report: &mut Vec<u8>, streams: &[Stream], node: &Name) -> Result<(), NoMemory>
+    ensures { OnOk result (report.new.items ≡ report.old.items ++ flat_map head_text (streams_on streams.now node.now)) }
+{
+    for stream in streams {
+        if stream.is_on(node) {
+            push_head(report, stream)?;
+        }
+    }
+    Ok(())
+}
+
+fn push_head(report: &mut Vec<u8>, stream: &Stream) -> Result<(), NoMemory>
+    ensures { OnOk result (report.new.items ≡ report.old.items ++ head_text stream.now) }
+{
+    push_title(report, stream)?;
+    push_counts(report, stream)?;
+    push_origins(report, stream)
 }
 
 fn push_title(report: &mut Vec<u8>, stream: &Stream) -> Result<(), NoMemory>
@@ -130,13 +245,6 @@ fn push_counts(report: &mut Vec<u8>, stream: &Stream) -> Result<(), NoMemory>
     push_text(report, b" kept ")?;
     push_number(report, stream.count())?;
     push_text(report, b"\n")
-}
-
-fn push_head(report: &mut Vec<u8>, stream: &Stream) -> Result<(), NoMemory>
-    ensures { OnOk result (report.new.items ≡ report.old.items ++ head_text stream.now) }
-{
-    push_title(report, stream)?;
-    push_counts(report, stream)
 }
 
 fn push_origins(report: &mut Vec<u8>, stream: &Stream) -> Result<(), NoMemory>
@@ -168,12 +276,4 @@ fn push_node(report: &mut Vec<u8>, want: &Origin) -> Result<(), NoMemory>
         None => Ok(()),
         Some(node) => push_text(report, node.bytes()),
     }
-}
-
-fn push_stream(alloc: Global, report: &mut Vec<u8>, stream: &Stream) -> Result<(), NoMemory>
-    ensures { OnOk result (report.new.items ≡ report.old.items ++ show_text (Some stream.now)) }
-{
-    push_head(report, stream)?;
-    push_origins(report, stream)?;
-    push_rows(alloc, report, stream.rows())
 }

@@ -1,19 +1,20 @@
-ghost use Rattle.std.specs.Prelude.{◌≡◌, ◌<◌, ◌^◌, ◌∷◌, [], ◌++◌, length, IfOk, OnOk, map};
+ghost use Rattle.std.specs.Prelude.{◌≡◌, ◌<◌, ◌^◌, ◌∷◌, [], ◌++◌, length, IfOk, OnOk, map, is_some};
 ghost use Rattle.std.specs.Str.{bytes_eq};
 ghost use Rattle.std.specs.List.{list_any};
 ghost use Rattle.nats_text.specs.Matching.{matches};
-ghost use Rattle.stream_fold.specs.Histories.{kept, last};
+ghost use Rattle.stream_fold.specs.Histories.{kept, last, clock, message_at};
+ghost use Rattle.stream_fold.specs.Publishing.{verdict, GivesVerdict};
 ghost use Rattle.stream_fold.specs.Copying.{bound, start_by, configured, front};
 ghost use Rattle.stream_fold.specs.Held.{Fits, held_of, first_of};
-ghost use Rattle.leafd_cli.specs.Logs.{is_at, history_of};
-ghost use Rattle.leafd_cli.specs.Legal.{is_plain, takes};
+ghost use Rattle.leafd_cli.specs.Logs.{is_at, history_of, limits_of};
+ghost use Rattle.leafd_cli.specs.Effects.{takes};
 ghost use Rattle.leafd_cli.specs.Operations.{new_stream};
 ghost use Rattle.leafd_cli.specs.Plain.{copied_entry};
 
-use nats_text::{List, Name, NoMemory, Origin, Pattern, Start, Subject, matches};
+use nats_text::{List, Message, Name, NoMemory, Origin, Pattern, Start, Subject, matches};
 use std::alloc::Global;
 use std::marker::Model;
-use stream_fold::{BoundTo, Config, Copies, Entry, Numbered, StreamState};
+use stream_fold::{BoundTo, Config, Entry, Numbered, Refusal, StreamState, Verdict};
 
 /// A stream of a node: the configuration of its creation, its log, and what the log leaves.
 #[derive(Drop)]
@@ -85,22 +86,46 @@ impl Stream {
         &self.config
     }
 
-    /// Whether a line `stream` made it.
-    pub fn is_plain(&self) -> bool
-        ensures { result ≡ is_plain self.now }
+    /// The configuration in force.
+    pub fn limits(&self) -> &Config
+        ensures { result.now ≡ limits_of self.now }
     {
-        match &self.config.copies {
-            Copies::Nothing => true,
-            Copies::Mirror(_) => false,
-            Copies::Sources(_) => false,
-        }
+        self.state.config()
+    }
+
+    /// The log, the oldest entry first.
+    pub fn log(&self) -> &[Entry]
+        ensures { result.now ≡ self.now.entries }
+    {
+        self.log.as_slice()
+    }
+
+    /// What a publish of this message at this moment is answered.
+    pub fn check(&self, alloc: Global, message: &Message, now: u64) -> Result<Verdict, Refusal>
+        ensures { GivesVerdict result (verdict (history_of self.now) message.now now) }
+    {
+        self.state.check(alloc, message, now)
+    }
+
+    /// Whether a message is kept under the number.
+    pub fn has(&self, seq: u64) -> bool
+        ensures { result ≡ is_some (message_at seq (kept (history_of self.now))) }
+    {
+        self.state.kept(seq).is_some()
+    }
+
+    /// The greatest time of a message or moment of an expiry, else 0.
+    pub fn clock(&self) -> u64
+        ensures { result ≡ clock self.now.entries }
+    {
+        self.state.clock()
     }
 
     /// Whether one of its subjects matches.
     pub fn takes(&self, subject: &Subject) -> bool
         ensures { result ≡ takes subject.now self.now }
     {
-        any_matches(self.config.subjects.as_slice(), subject)
+        any_matches(self.state.config().subjects.as_slice(), subject)
     }
 
     pub fn last(&self) -> u64

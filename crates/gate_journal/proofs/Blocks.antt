@@ -1,5 +1,8 @@
 -- Lists of records, one after another.
-use Rattle.std.proofs.Common.{◌≡◌, ◌≢◌, ℕ, ◌+◌, ◌<◌, ◌^◌, List, [], ◌∷◌, ◌++◌, length, All, true, refl, ap, ◌∙◌, sym, arith, append_assoc, append-nil, length-append}
+use Rattle.std.proofs.Common.{◌≡◌, ◌≢◌, ℕ, ◌+◌, ◌≤◌, ◌<◌, ◌^◌, List, [], ◌∷◌, ◌++◌, length, get_or, take, min, All, true, refl, ap, ◌∙◌, sym, arith, append_assoc, append-nil, length-append}
+use Rattle.std.specs.Prelude.{zero, suc}
+use Rattle.std.proofs.Math.Seq.{take-suc}
+use Rattle.std.proofs.lemmas.List.{length-take, get_or-take}
 use Rattle.std.proofs.lemmas.Bool.Decides.{nat_tests}
 use Rattle.std.specs.Int.{w32, to_le_bytes}
 use Rattle.gate_journal.specs.Areas.{head, block, blocks, end_of, IsBody, IsArea}
@@ -24,6 +27,25 @@ length-front g bs = omega arith
 
 pub end-push : (bs : List (List ℕ)) (b : List ℕ) → end_of (bs ++ b ∷ []) ≡ end_of bs + 5 + length b
 end-push bs b = omega (arith, ap length (blocks-push bs b), length-append (blocks bs) (1 ∷ behind_gate b))
+
+-- one body more of a list moves the place on by its record
+pub end-step : (bs : List (List ℕ)) (k : ℕ) (b : List ℕ) → k < length bs → end_of (take (k + 1) bs) ≡ end_of (take k bs) + 5 + length (get_or bs k b)
+end-step bs k b within =
+    let next : k + 1 ≡ suc k = omega arith in
+    ap (λ (n : ℕ). end_of (take n bs)) next ∙ ap end_of (take-suc bs k b within) ∙ end-push (take k bs) (get_or bs k b)
+
+-- some bodies of a list end no further than all of them
+pub end-take : (bs : List (List ℕ)) (k : ℕ) → end_of (take k bs) ≤ end_of bs
+end-take bs zero = omega arith
+end-take [] (suc k) = omega arith
+end-take (b ∷ bs) (suc k) = omega (arith, end-take bs k, length-append (block b) (blocks (take k bs)), length-append (block b) (blocks bs))
+
+-- the next body of those before an index, and where its record ends
+pub end-next : (bs : List (List ℕ)) (n k : ℕ) (b : List ℕ) → k < length (take n bs) → b ≡ get_or (take n bs) k b → end_of (take (k + 1) bs) ≡ end_of (take k bs) + (5 + length b)
+end-next bs n k b within is =
+    let size : length (take n bs) ≡ min n (length bs) = length-take n bs in
+    let same : get_or bs k b ≡ b = sym (get_or-take n bs k b (omega (arith, within, size))) ∙ sym is in
+    omega (arith, end-step bs k b (omega (arith, within, size)), ap length same)
 
 -- a front, a closed gate, anything
 pub record Shut (front c : List ℕ) : Type 0 where

@@ -1,6 +1,7 @@
 mod Appends
 mod Blocks
 mod Crash
+mod Endings
 mod Formats
 mod Moments
 mod Reading

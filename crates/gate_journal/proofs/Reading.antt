@@ -1,14 +1,10 @@
 -- What the reads of a load find.
-use Rattle.std.proofs.Common.{◌≡◌, ◌==◌, true, false, ℕ, ◌+◌, ◌≤◌, ◌<◌, ◌^◌, List, [], ◌∷◌, ◌++◌, length, get_or, take, drop, refl, sym, ◌∙◌, ap, subst, arith, append_assoc, take-append-drop, take_all}
-use Rattle.std.specs.Prelude.{Err, Bool, not}
+use Rattle.std.proofs.Common.{◌≡◌, true, false, ℕ, ◌+◌, ◌≤◌, ◌<◌, List, [], ◌∷◌, ◌++◌, length, get_or, take, drop, refl, sym, ◌∙◌, ap, arith, append_assoc, take-append-drop, take_all}
+use Rattle.std.specs.Prelude.{Bool, not}
 use Rattle.std.specs.Int.{w32, w64, to_le_bytes}
 use Rattle.std.proofs.lemmas.List.{drop_at, drop_more, drop-drop, get_or-drop, get_or-take, length-take-le, length-drop}
-use Rattle.std.proofs.lemmas.List.Elements.{All-nil}
-use Rattle.gate_journal.specs.Areas.{head, magic, block, blocks, IsBody, IsArea, IsUnreadable}
+use Rattle.gate_journal.specs.Areas.{head, magic, block, blocks}
 use Rattle.gate_journal.proofs.Blocks.{blocks-push}
-use Rattle.gate_journal.specs.Walks.{ReadsRecord, ReadsBody}
-use Rattle.gate_journal.specs.declared.fault.LoadFault.{LoadFault}
-use Rattle.gate_journal.specs.declared.fault.LoadFault.TheVariants.{ReadFault, SyncFault, BadJournal, TooLong, NoMemory}
 
 pub not_other : (b : Bool) → not b ≡ false → true ≡ b
 not_other true e = refl
@@ -36,33 +32,6 @@ pub gate_read : (s t one : List ℕ) (place : ℕ) → t ≡ s → place < lengt
 gate_read s t one place same within is gate =
     let here : get_or s place 0 ≡ 1 = sym (get_or-drop place s 0 0 ∙ ap (λ (k : ℕ). get_or s k 0) (omega arith)) ∙ sym (get_or-take 1 (drop place s) 0 0 (omega arith)) ∙ ap (λ (l : List ℕ). get_or l 0 0) (sym is) ∙ gate in
     drop_more s place 0 within ∙ ap (λ (k : ℕ). k ∷ drop (place + 1) s) here ∙ ap (λ (l : List ℕ). 1 ∷ drop (place + 1) l) (sym same)
-
--- what couldn't be read of a record
-pub record_fails : (c rest : List ℕ) (place : ℕ) (f : LoadFault) → c ≡ 1 ∷ rest → ReadsRecord rest place (Err f) → ReadsBody c place (Err f)
-record_fails c rest place ReadFault gate r = r
-record_fails c rest place SyncFault gate r = r
-record_fails c rest place (BadJournal at) gate r = (r.0, subst IsUnreadable (sym gate) (refl, r.1))
-record_fails c rest place (TooLong len) gate r = r
-record_fails c rest place NoMemory gate r = r
-
--- an area that doesn't count
-uncounted : (s rest : List ℕ) (area_gate g : ℕ) → s ≡ head area_gate g ++ rest → (area_gate == 1) ≡ false → g < 2 ^ 64 → 18 ≤ length s → IsArea false g [] s
-uncounted s [] area_gate g is closed stamp long = absurd (omega (arith, long, ap length is))
-uncounted s (gate ∷ rest) area_gate g is closed stamp long = record {
-  area_gate = area_gate;
-  gate = gate;
-  rest = rest;
-  is = is;
-  counted = closed;
-  stamp = stamp;
-  legal = All-nil IsBody;
-  closed = λ no. grind (arith, no);
-  unread = λ _. refl;
-}
-
-pub no_bodies : (s rest : List ℕ) (area_gate g : ℕ) (counts : Bool) → not counts ≡ true → s ≡ head area_gate g ++ rest → (area_gate == 1) ≡ counts → g < 2 ^ 64 → 18 ≤ length s → IsArea counts g [] s
-no_bodies s rest area_gate g true e is closed stamp long = absurd (grind (arith, e))
-no_bodies s rest area_gate g false e is closed stamp long = uncounted s rest area_gate g is closed stamp long
 
 -- one record more stands behind the head
 pub walk_on : (s t rest body : List ℕ) (bs : List (List ℕ)) (place : ℕ) → t ≡ s → drop 17 s ≡ blocks bs ++ drop place s → drop place t ≡ block body ++ rest → drop 17 s ≡ blocks (bs ++ body ∷ []) ++ drop (place + (5 + length body)) s

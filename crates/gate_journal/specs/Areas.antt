@@ -1,6 +1,8 @@
 -- What the bytes of an area mean. An area is what one disk holds of a journal.
 use Rattle.std.specs.Prelude.{◌≡◌, ◌≢◌, ◌⊎◌, ℕ, ◌+◌, ◌<◌, ◌≤◌, ◌^◌, Bool, true, false, ◌==◌, List, [], ◌∷◌, ◌++◌, length, take, All}
 use Rattle.std.specs.Int.{w32, w64, to_le_bytes, from_le_bytes}
+use Rattle.gate_journal.specs.declared.area.Ending.{Ending}
+use Rattle.gate_journal.specs.declared.area.Ending.TheVariants.{Closed, Missing, Unreadable}
 
 -- the most bytes of a body
 abbrev pub max_body : ℕ
@@ -79,3 +81,34 @@ pub record BreaksAt (place : ℕ) (c : List ℕ) : Type 0 where
 -- the bytes are no area, and this is the place of the first that tells it
 abbrev pub IsBroken : ℕ → List ℕ → Type 0
 IsBroken place c = ((place ≡ 0) × IsHeadless c) ⊎ BreaksAt place c
+
+-- How the records of an area end: at a closed gate, at the end of the disk where a gate is due, or at an open gate behind
+-- which no body can be read.
+abbrev pub EndsIn : Ending → List ℕ → Type 0
+EndsIn Closed c = (gate : ℕ) × (rest : List ℕ) × (c ≡ gate ∷ rest) × (gate ≢ 1)
+EndsIn Missing c = c ≡ []
+EndsIn Unreadable c = (rest : List ℕ) × (c ≡ 1 ∷ rest) × HasBadLength rest
+
+-- what an area holds: whether it counts, its generation, its bodies, and how their records end
+pub record AreaState : Type 0 where
+  pub counts : Bool
+  pub generation : ℕ
+  pub bodies : List (List ℕ)
+  pub ending : Ending
+
+-- an area that isn't there: it doesn't count
+abbrev pub no_area : AreaState
+no_area = record { counts = false; generation = 0; bodies = []; ending = Closed }
+
+-- An area whole or broken: its head, and where it counts the records of its bodies up to what ends them. Where it
+-- doesn't count it has no bodies, and no gate is read.
+pub record Holds (area : AreaState) (c : List ℕ) : Type 0 where
+  pub area_gate : ℕ
+  pub rest : List ℕ
+  pub is : c ≡ head area_gate area.generation ++ blocks area.bodies ++ rest
+  pub long : 18 ≤ length c
+  pub counted : (area_gate == 1) ≡ area.counts
+  pub stamp : area.generation < 2 ^ 64
+  pub legal : All IsBody area.bodies
+  pub ends : area.counts ≡ true → EndsIn area.ending rest
+  pub unread : area.counts ≡ false → (area.bodies ≡ []) × (area.ending ≡ Closed)

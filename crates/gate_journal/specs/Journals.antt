@@ -1,9 +1,9 @@
 -- What the calls of a journal answer, and what they do to a disk.
-use Rattle.std.specs.Prelude.{◌≡◌, ◌⊎◌, ℕ, ◌+◌, ◌≤◌, ◌<◌, Bool, true, false, cond, List, [], ◌∷◌, ◌++◌, length, take, Option, Some, Result, Ok, Err}
+use Rattle.std.specs.Prelude.{◌≡◌, ◌⊎◌, ℕ, ◌+◌, ◌≤◌, ◌<◌, Bool, true, false, cond, List, [], ◌∷◌, ◌++◌, length, take, Option, Some, None, Result, Ok, Err}
 use Rattle.std.specs.Int.{w32, to_le_bytes}
 use Rattle.leaf_edges.specs.Causes.{Rose}
 use Rattle.leaf_edges.specs.Disks.{Op, wrote, synced}
-use Rattle.gate_journal.specs.Areas.{head, max_area, end_of, IsArea, IsBroken}
+use Rattle.gate_journal.specs.Areas.{head, max_area, end_of, AreaState, IsArea, IsBroken, IsHeadless, Holds}
 use Rattle.gate_journal.specs.declared.fault.LoadFault.{LoadFault}
 use Rattle.gate_journal.specs.declared.fault.LoadFault.TheVariants.{ReadFault, SyncFault, BadJournal, TooLong, NoMemory}
 use Rattle.gate_journal.specs.declared.fault.AppendFault.{AppendFault}
@@ -84,6 +84,16 @@ Reads c (Err SyncFault) = Unit {0}
 Reads c (Err (BadJournal place)) = (length c ≤ max_area) × IsBroken place c
 Reads c (Err (TooLong len)) = (max_area < length c) × (len ≡ length c)
 Reads c (Err NoMemory) = Unit {0}
+
+-- what an area's reading answers of these bytes: what they hold, that they have no head, or the length where there are too many
+abbrev pub ReadsArea : List ℕ → Result (Option AreaState) LoadFault → Type 0
+ReadsArea c (Ok (Some area)) = (length c ≤ max_area) × Holds area c
+ReadsArea c (Ok None) = (length c ≤ max_area) × IsHeadless c
+ReadsArea c (Err ReadFault) = Unit {0}
+ReadsArea c (Err SyncFault) = ⊥
+ReadsArea c (Err (BadJournal place)) = ⊥
+ReadsArea c (Err (TooLong len)) = (max_area < length c) × (len ≡ length c)
+ReadsArea c (Err NoMemory) = Unit {0}
 
 -- a fault of a load comes only where the disk's count rose, and every other answer leaves the count
 abbrev pub LoadCauses : {T : Type 0} → ℕ → ℕ → Result T LoadFault → Type 0

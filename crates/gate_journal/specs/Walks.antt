@@ -1,15 +1,20 @@
 -- What the parts of a load and of an append do.
-use Rattle.std.specs.Prelude.{◌≡◌, ◌≢◌, ◌⊎◌, ℕ, ◌≤◌, ◌<◌, ◌^◌, ◌==◌, Bool, List, ◌∷◌, ◌++◌, length, All, Option, Some, None, Result, Ok, Err}
+use Rattle.std.specs.Prelude.{◌≡◌, ◌≢◌, ◌⊎◌, ℕ, ◌+◌, ◌≤◌, ◌<◌, ◌^◌, ◌==◌, Bool, List, ◌++◌, length, All, Option, Some, None, Result, Ok, Err}
 use Rattle.std.specs.Int.{w32, to_le_bytes}
 use Rattle.leaf_edges.specs.declared.fault.EdgeError.{EdgeError}
 use Rattle.leaf_edges.specs.declared.fault.EdgeError.TheVariants.{Failed, NoMemory as NoRoom}
 use Rattle.leaf_edges.specs.Disks.{Op, Torn, Unchanged, Elapses}
-use Rattle.gate_journal.specs.Areas.{head, block, blocks, end_of, IsBody, IsHeadless, HasBadLength, IsUnreadable}
+use Rattle.gate_journal.specs.Areas.{head, block, blocks, end_of, IsBody, IsHeadless, HasBadLength, EndsIn, AreaState}
+use Rattle.gate_journal.specs.Journals.{JournalState}
+use Rattle.gate_journal.specs.declared.area.Ending.TheVariants.{Closed}
 use Rattle.gate_journal.specs.declared.fault.LoadFault.{LoadFault}
-use Rattle.gate_journal.specs.declared.fault.LoadFault.TheVariants.{ReadFault, SyncFault, BadJournal, TooLong, NoMemory}
+use Rattle.gate_journal.specs.declared.fault.LoadFault.TheVariants.{ReadFault, BadJournal, NoMemory}
 use Rattle.gate_journal.specs.declared.fault.AppendFault.{AppendFault}
 use Rattle.gate_journal.specs.declared.fault.AppendFault.TheVariants.{DiskFault, NoMemory as OutOfMemory}
-use Rattle.gate_journal.specs.declared.area.Head.{Head}
+use Rattle.gate_journal.specs.declared.walk.Head.{Head}
+use Rattle.gate_journal.specs.declared.walk.Next.{Next}
+use Rattle.gate_journal.specs.declared.walk.Next.TheVariants.{Body, End}
+use Rattle.gate_journal.specs.declared.walk.Walk.{Walk}
 
 -- a disk's refusal of a write or a sync
 abbrev pub append_fault : EdgeError → AppendFault
@@ -25,39 +30,40 @@ pub record Looks {D : Type 0} (seen : D → List ℕ) (images : D → List ℕ �
 abbrev pub MayTear : (List ℕ → Type 0) → ℕ → ℕ → List ℕ → Type 0
 MayTear images place count c = images c ⊎ ((d : List ℕ) × images d × Torn place count d c)
 
+-- the disk failed at a read, or there was no memory
+abbrev pub IsReadOrMemory : LoadFault → Type 0
+IsReadOrMemory fault = (fault ≡ ReadFault) ⊎ (fault ≡ NoMemory)
+
 -- the head of an area that begins with these bytes, or that they have none
-abbrev pub ReadsHead : List ℕ → Result Head LoadFault → Type 0
-ReadsHead c (Ok found) = (area_gate : ℕ) × (rest : List ℕ) × (c ≡ head area_gate found.generation ++ rest) × ((area_gate == 1) ≡ found.counts) × (found.generation < 2 ^ 64) × (18 ≤ length c)
-ReadsHead c (Err ReadFault) = Unit {0}
-ReadsHead c (Err SyncFault) = ⊥
-ReadsHead c (Err (BadJournal place)) = (place ≡ 0) × IsHeadless c
-ReadsHead c (Err (TooLong len)) = ⊥
-ReadsHead c (Err NoMemory) = Unit {0}
+abbrev pub ReadsHead : List ℕ → Result (Option Head) LoadFault → Type 0
+ReadsHead c (Ok (Some found)) = (area_gate : ℕ) × (rest : List ℕ) × (c ≡ head area_gate found.generation ++ rest) × ((area_gate == 1) ≡ found.counts) × (found.generation < 2 ^ 64) × (18 ≤ length c)
+ReadsHead c (Ok None) = IsHeadless c
+ReadsHead c (Err fault) = fault ≡ ReadFault
 
--- the record behind an open gate at this place, or that its length is bad
-abbrev pub ReadsRecord : List ℕ → ℕ → Result (List ℕ) LoadFault → Type 0
-ReadsRecord c place (Ok body) = (rest : List ℕ) × (c ≡ to_le_bytes w32 (length body) ++ body ++ rest) × IsBody body
-ReadsRecord c place (Err ReadFault) = Unit {0}
-ReadsRecord c place (Err SyncFault) = ⊥
-ReadsRecord c place (Err (BadJournal at)) = (at ≡ place) × HasBadLength c
-ReadsRecord c place (Err (TooLong len)) = ⊥
-ReadsRecord c place (Err NoMemory) = Unit {0}
+-- the record behind an open gate, or that its length is bad
+abbrev pub ReadsRecord : List ℕ → Result (Option (List ℕ)) LoadFault → Type 0
+ReadsRecord c (Ok (Some body)) = (rest : List ℕ) × (c ≡ to_le_bytes w32 (length body) ++ body ++ rest) × IsBody body
+ReadsRecord c (Ok None) = HasBadLength c
+ReadsRecord c (Err fault) = IsReadOrMemory fault
 
--- the record that begins here, or that a closed gate stands here, or that nothing can be read here
-abbrev pub ReadsBody : List ℕ → ℕ → Result (Option (List ℕ)) LoadFault → Type 0
-ReadsBody c place (Ok (Some body)) = (rest : List ℕ) × (c ≡ block body ++ rest) × IsBody body
-ReadsBody c place (Ok None) = (gate : ℕ) × (rest : List ℕ) × (c ≡ gate ∷ rest) × (gate ≢ 1)
-ReadsBody c place (Err ReadFault) = Unit {0}
-ReadsBody c place (Err SyncFault) = ⊥
-ReadsBody c place (Err (BadJournal at)) = (at ≡ place) × IsUnreadable c
-ReadsBody c place (Err (TooLong len)) = ⊥
-ReadsBody c place (Err NoMemory) = Unit {0}
+-- the record that begins here, or that none does
+abbrev pub ReadsBody : List ℕ → Result Next LoadFault → Type 0
+ReadsBody c (Ok (Body body)) = (rest : List ℕ) × (c ≡ block body ++ rest) × IsBody body
+ReadsBody c (Ok (End ending)) = EndsIn ending c
+ReadsBody c (Err fault) = IsReadOrMemory fault
 
--- the records that begin here up to a closed gate, and its place, or where nothing can be read
-abbrev pub ReadsBodies : List ℕ → Result (List (List ℕ) × ℕ) LoadFault → Type 0
-ReadsBodies c (Ok found) = (gate : ℕ) × (rest : List ℕ) × (c ≡ blocks found.0 ++ gate ∷ rest) × (gate ≢ 1) × All IsBody found.0 × (found.1 ≡ end_of found.0)
-ReadsBodies c (Err ReadFault) = Unit {0}
-ReadsBodies c (Err SyncFault) = ⊥
-ReadsBodies c (Err (BadJournal place)) = (bodies : List (List ℕ)) × (rest : List ℕ) × (c ≡ blocks bodies ++ rest) × IsUnreadable rest × All IsBody bodies × (place ≡ end_of bodies)
-ReadsBodies c (Err (TooLong len)) = ⊥
-ReadsBodies c (Err NoMemory) = Unit {0}
+-- a record that begins at this place ends at this one at the latest
+abbrev pub FitsBefore : ℕ → ℕ → Result Next LoadFault → Type 0
+FitsBefore place len (Ok (Body body)) = place + 5 + length body ≤ len
+FitsBefore place len (Ok (End ending)) = Unit {0}
+FitsBefore place len (Err fault) = Unit {0}
+
+-- the records that begin here up to what ends them
+abbrev pub ReadsBodies : List ℕ → Result Walk LoadFault → Type 0
+ReadsBodies c (Ok found) = (rest : List ℕ) × (c ≡ blocks found.bodies ++ rest) × EndsIn found.ending rest × All IsBody found.bodies
+ReadsBodies c (Err fault) = IsReadOrMemory fault
+
+-- the journal and the bodies of an area whose records end at a closed gate, else where they end
+abbrev pub OfArea : AreaState → Result (JournalState × List (List ℕ)) LoadFault → Type 0
+OfArea area (Ok loaded) = (area.ending ≡ Closed) × (loaded.0 ≡ record { counts = area.counts; generation = area.generation; end = end_of area.bodies }) × (loaded.1 ≡ area.bodies)
+OfArea area (Err fault) = (area.ending ≢ Closed) × (fault ≡ BadJournal (end_of area.bodies))

@@ -1,156 +1,161 @@
-ghost use Rattle.std.specs.Prelude.{◌≡◌, ◌+◌, ◌≤◌, ◌<◌, ◌^◌, drop, length, Some, IfSome, IfOk, OnOk};
-ghost use Rattle.std.specs.Int.{w32, w64, to_le_bytes, from_le_bytes};
-ghost use Rattle.gate_journal.specs.Areas.{max_area, max_body};
-ghost use Rattle.gate_journal.specs.Journals.{LookCauses};
-ghost use Rattle.gate_journal.specs.Walks.{Looks, ReadsHead, ReadsRecord, ReadsBody, ReadsBodies};
+ghost use Rattle.std.specs.Prelude.{◌≡◌, ◌≤◌, [], take, length};
+ghost use Rattle.leaf_edges.specs.Disks.{Unchanged, Elapses};
+ghost use Rattle.gate_journal.specs.Areas.{end_of, no_area};
+ghost use Rattle.gate_journal.specs.declared.area.Ending.TheVariants.{Closed};
+ghost use Rattle.gate_journal.specs.Journals.{ReadsArea, LookCauses};
 
 use crate::LoadFault;
-use crate::device::fill;
+use crate::device::length_of;
+use crate::walk::{HEAD_LEN, Head, RECORD_HEAD_LEN, read_bodies, read_head};
 use leaf_edges::Disk;
 use nats_text::{Bytes, List};
 use std::alloc::Global;
+use std::marker::Model;
 
-/// How an area begins.
-pub(crate) const MAGIC: [u8; 8] = *b"LEAFJRN1";
+/// The most bytes of an area.
+const MAX_LEN: u64 = 1 << 40;
 
-/// The byte of an open gate, and of the area gate of an area that counts.
-pub(crate) const OPEN: u8 = 1;
-
-/// The byte that is written as a closed gate; any but `OPEN` is one.
-pub(crate) const CLOSED: u8 = 0;
-
-/// How many bytes stand before the first gate.
-pub(crate) const HEAD_LEN: u64 = 17;
-
-/// How many bytes of a record stand before its body.
-pub(crate) const RECORD_HEAD_LEN: u64 = 5;
-
-/// The most bytes of a body.
-const MAX_BODY: u64 = 2_097_152;
-
-/// What the head of an area says.
-#[derive(Clone, Copy, Debug)]
-pub(crate) struct Head {
-    pub counts: bool,
-    pub generation: u64,
+/// How the records of an area end.
+#[derive(Clone, Copy, Debug, PartialEq, Eq)]
+pub enum Ending {
+    /// At a closed gate.
+    Closed,
+    /// At the end of the disk, where a gate is due.
+    Missing,
+    /// At an open gate behind which no body can be read: its length is 0, above 2,097,152, or passes the
+    /// end of the disk.
+    Unreadable,
 }
 
-/// The number in 4 bytes little-endian.
-fn read_u32(bytes: [u8; 4]) -> u32
-    ensures value { result ≡ from_le_bytes w32 bytes }
-    ensures spelling { to_le_bytes w32 result ≡ bytes }
-{
-    u32::from_le_bytes(bytes)
+/// What a disk holds of a journal, whole or broken. Contracts see whether the area counts, its
+/// generation, its bodies, and how their records end.
+#[derive(Debug, Drop)]
+pub struct Area {
+    counts: bool,
+    generation: u64,
+    bodies: List<Bytes>,
+    /// The place where the records end.
+    end: u64,
+    ending: Ending,
 }
 
-/// The number in 8 bytes little-endian.
-fn read_u64(bytes: [u8; 8]) -> u64
-    ensures value { result ≡ from_le_bytes w64 bytes }
-    ensures spelling { to_le_bytes w64 result ≡ bytes }
-{
-    u64::from_le_bytes(bytes)
+impl Model for Area {
+    ghost use Rattle.std.specs.Prelude.{◌≡◌, ◌<◌, ◌^◌};
+    ghost use Rattle.gate_journal.specs.Areas.{AreaState, end_of};
+
+    ghost Value = { AreaState };
+
+    ghost view = { λ a. record { counts = a.counts; generation = a.generation; bodies = a.bodies; ending = a.ending } };
+
+    ghost invariant = { λ a. (a.end ≡ end_of a.bodies) × (a.end < 2 ^ 64) };
 }
 
-/// Reads the head of an area on a disk with this many bytes.
-pub(crate) fn read_head<D: Disk>(disk: &mut D, len: u64) -> Result<Head, LoadFault>
-    requires { D.tells → len ≡ length (D.seen disk.old) }
-    ensures answer { D.tells → ReadsHead (D.seen disk.old) result }
-    ensures long { OnOk result (18 ≤ len) }
-    ensures looks { D.tells → Looks D.seen D.images D.unsynced D.done D.failed D.moment D.left_since disk.old disk.new }
-    ensures cause { LookCauses (D.faults disk.old) (D.faults disk.new) result }
-{
-    // A gate follows the head in every area.
-    if len <= HEAD_LEN {
-        return Err(LoadFault::BadJournal { place: 0 });
+impl Area {
+    /// Reads what a disk holds, `None` where its bytes have no head. It writes and syncs nothing, and
+    /// `SyncFault` and `BadJournal` don't come.
+    pub fn read<D: Disk>(alloc: Global, disk: &mut D) -> Result<Option<Area>, LoadFault>
+        ensures answer { D.tells → ReadsArea (D.seen disk.old) result }
+        ensures same { D.tells → Unchanged D.seen D.images D.unsynced D.done D.failed disk.old disk.new }
+        ensures time { D.tells → Elapses D.moment D.left_since D.images disk.old disk.new }
+        ensures cause { LookCauses (D.faults disk.old) (D.faults disk.new) result }
+    {
+        let len = length_of(disk)?;
+        if len > MAX_LEN {
+            return Err(LoadFault::TooLong { len });
+        }
+        let Some(head) = read_head(disk, len)? else {
+            return Ok(None);
+        };
+        if !head.counts {
+            return Ok(Some(Area::without_bodies(alloc, head)));
+        }
+        let walk = read_bodies(alloc, disk, len)?;
+        Ok(Some(Area {
+            counts: true,
+            generation: head.generation,
+            bodies: walk.bodies,
+            end: walk.end,
+            ending: walk.ending,
+        }))
     }
-    let mut head = [0u8; 17];
-    fill(disk, 0, &mut head)?;
-    if &head[..8] != MAGIC.as_slice() {
-        return Err(LoadFault::BadJournal { place: 0 });
-    }
-    let mut generation = [0u8; 8];
-    generation.copy_from_slice(&head[9..]);
-    Ok(Head {
-        counts: head[8] == OPEN,
-        generation: read_u64(generation),
-    })
-}
 
-/// Reads the record behind the open gate at `place`.
-fn read_record<D: Disk>(
-    alloc: Global,
-    disk: &mut D,
-    place: u64,
-    len: u64,
-) -> Result<Bytes, LoadFault>
-    requires len { D.tells → len ≡ length (D.seen disk.old) }
-    requires gate { place < len }
-    requires most { len ≤ max_area }
-    ensures answer { D.tells → ReadsRecord (drop (place + 1) (D.seen disk.old)) place result }
-    ensures fits { IfOk result (λ body. place + 5 + length body ≤ len) }
-    ensures looks { D.tells → Looks D.seen D.images D.unsynced D.done D.failed D.moment D.left_since disk.old disk.new }
-    ensures cause { LookCauses (D.faults disk.old) (D.faults disk.new) result }
-{
-    let rest = len - place;
-    if rest < RECORD_HEAD_LEN {
-        return Err(LoadFault::BadJournal { place });
+    /// The area of a disk that isn't there.
+    pub fn absent(alloc: Global) -> Area
+        ensures { result ≡ no_area }
+    {
+        Area::without_bodies(
+            alloc,
+            Head {
+                counts: false,
+                generation: 0,
+            },
+        )
     }
-    let mut size = [0u8; 4];
-    fill(disk, place + 1, &mut size)?;
-    let size = read_u32(size) as u64;
-    if size == 0 || size > MAX_BODY || size > rest - RECORD_HEAD_LEN {
-        return Err(LoadFault::BadJournal { place });
-    }
-    let mut body = vec![in alloc; 0u8; size as usize]?;
-    fill(disk, place + RECORD_HEAD_LEN, &mut body)?;
-    Ok(List::from_vec(body))
-}
 
-/// Reads the body at `place`, `None` where a closed gate stands there.
-fn next_body<D: Disk>(
-    alloc: Global,
-    disk: &mut D,
-    place: u64,
-    len: u64,
-) -> Result<Option<Bytes>, LoadFault>
-    requires len { D.tells → len ≡ length (D.seen disk.old) }
-    requires place { place ≤ len }
-    requires most { len ≤ max_area }
-    ensures answer { D.tells → ReadsBody (drop place (D.seen disk.old)) place result }
-    ensures fits { IfOk result (λ found. IfSome found (λ body. place + 5 + length body ≤ len)) }
-    ensures looks { D.tells → Looks D.seen D.images D.unsynced D.done D.failed D.moment D.left_since disk.old disk.new }
-    ensures cause { LookCauses (D.faults disk.old) (D.faults disk.new) result }
-{
-    if place == len {
-        return Err(LoadFault::BadJournal { place });
+    fn without_bodies(alloc: Global, head: Head) -> Area
+        ensures { result ≡ record { counts = head.counts; generation = head.generation; bodies = []; ending = Closed } }
+    {
+        Area {
+            counts: head.counts,
+            generation: head.generation,
+            bodies: List::new(alloc),
+            end: HEAD_LEN,
+            ending: Ending::Closed,
+        }
     }
-    let mut gate = [0u8; 1];
-    fill(disk, place, &mut gate)?;
-    if gate[0] != OPEN {
-        return Ok(None);
-    }
-    let body = read_record(alloc, disk, place, len)?;
-    Ok(Some(body))
-}
 
-/// Reads the bodies of an area that counts, and the place of the closed gate behind them.
-pub(crate) fn read_bodies<D: Disk>(
-    alloc: Global,
-    disk: &mut D,
-    len: u64,
-) -> Result<(List<Bytes>, u64), LoadFault>
-    requires len { D.tells → len ≡ length (D.seen disk.old) }
-    requires head { 17 ≤ len }
-    requires most { len ≤ max_area }
-    ensures answer { D.tells → ReadsBodies (drop 17 (D.seen disk.old)) result }
-    ensures looks { D.tells → Looks D.seen D.images D.unsynced D.done D.failed D.moment D.left_since disk.old disk.new }
-    ensures cause { LookCauses (D.faults disk.old) (D.faults disk.new) result }
-{
-    let mut bodies = List::new(alloc);
-    let mut place = HEAD_LEN;
-    while let Some(body) = next_body(alloc, disk, place, len)? {
-        place += RECORD_HEAD_LEN + body.len() as u64;
-        bodies.push(body)?;
+    /// Whether it counts.
+    pub fn counts(&self) -> bool
+        ensures { result ≡ self.now.counts }
+    {
+        self.counts
     }
-    Ok((bodies, place))
+
+    /// The number by which the newer of two areas that count is told.
+    pub fn generation(&self) -> u64
+        ensures { result ≡ self.now.generation }
+    {
+        self.generation
+    }
+
+    /// The bodies, the first first.
+    pub fn bodies(&self) -> &[Bytes]
+        ensures { result.now ≡ self.now.bodies }
+    {
+        self.bodies.as_slice()
+    }
+
+    /// The bodies, the first first.
+    pub fn into_bodies(self) -> List<Bytes>
+        ensures { result ≡ self.bodies }
+    {
+        let Area { bodies, .. } = self;
+        bodies
+    }
+
+    /// How the records end.
+    pub fn ending(&self) -> Ending
+        ensures { result ≡ self.now.ending }
+    {
+        self.ending
+    }
+
+    /// The place where the records end, in bytes from the disk's first.
+    pub fn end(&self) -> u64
+        ensures { result ≡ end_of self.now.bodies }
+    {
+        self.end
+    }
+
+    /// The place of the gate of the body with this index, counted from 0.
+    pub fn place_of(&self, index: usize) -> u64
+        requires { index ≤ length self.now.bodies }
+        ensures { result ≡ end_of (take index self.now.bodies) }
+    {
+        let mut place = HEAD_LEN;
+        for body in &self.bodies.as_slice()[..index] {
+            place += RECORD_HEAD_LEN + body.len() as u64;
+        }
+        place
+    }
 }

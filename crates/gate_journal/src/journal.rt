@@ -1,19 +1,17 @@
 ghost use Rattle.std.specs.Prelude.{◌≡◌, ◌⊎◌, ◌+◌, ◌≤◌, List as Items, ℕ, [], ◌∷◌, ◌++◌, length, IfOk, IfErr, OnOk, OnErr, IsErrOf, IsTrue};
 ghost use Rattle.leaf_edges.specs.Disks.{Only, Unchanged, Elapses, LeavesOnly, wrote, synced};
 ghost use Rattle.gate_journal.specs.Areas.{max_body, max_area};
+ghost use Rattle.gate_journal.specs.Walks.{OfArea};
 ghost use Rattle.gate_journal.specs.Journals.{Stands, IsBeforeOrAfter, Reads, Syncs, Does, LoadCauses, LookCauses, WriteFaults, grown, staged, append_calls, new_area, new_journal};
 ghost use Rattle.gate_journal.specs.declared.fault.AppendFault.TheVariants.{NoMemory as OutOfMemory};
 
-use crate::area::{CLOSED, HEAD_LEN, Head, MAGIC, OPEN, RECORD_HEAD_LEN, read_bodies, read_head};
-use crate::device::{length_of, write_and_sync};
-use crate::{AppendFault, LoadFault};
+use crate::device::write_and_sync;
+use crate::walk::{CLOSED, MAGIC, OPEN, RECORD_HEAD_LEN};
+use crate::{AppendFault, Area, Ending, LoadFault};
 use leaf_edges::Disk;
 use nats_text::{Bytes, List};
 use std::alloc::Global;
 use std::marker::Model;
-
-/// The most bytes of an area.
-const MAX_LEN: u64 = 1 << 40;
 
 /// The generation of a new area that counts.
 const FIRST_GENERATION: u64 = 1;
@@ -110,27 +108,26 @@ impl Journal {
         // No answer is SyncFault.
         ensures cause { LookCauses (D.faults disk.old) (D.faults disk.new) result }
     {
-        let len = length_of(disk)?;
-        if len > MAX_LEN {
-            return Err(LoadFault::TooLong { len });
+        match Area::read(alloc, disk)? {
+            Some(area) => Journal::of_area(alloc, area),
+            None => Err(LoadFault::BadJournal { place: 0 }),
         }
-        let head = read_head(disk, len)?;
-        if !head.counts {
-            return Ok((Journal::ending_at(alloc, head, HEAD_LEN), List::new(alloc)));
-        }
-        let (bodies, end) = read_bodies(alloc, disk, len)?;
-        Ok((Journal::ending_at(alloc, head, end), bodies))
     }
 
-    fn ending_at(alloc: Global, head: Head, end: u64) -> Journal
-        ensures { result ≡ record { counts = head.counts; generation = head.generation; end = end } }
+    /// The journal of an area whose records end at a closed gate.
+    fn of_area(alloc: Global, area: Area) -> Result<(Journal, List<Bytes>), LoadFault>
+        ensures answer { OfArea area result }
     {
-        Journal {
-            counts: head.counts,
-            generation: head.generation,
-            end,
-            buf: Vec::new(alloc),
+        if area.ending() != Ending::Closed {
+            return Err(LoadFault::BadJournal { place: area.end() });
         }
+        let journal = Journal {
+            counts: area.counts(),
+            generation: area.generation(),
+            end: area.end(),
+            buf: Vec::new(alloc),
+        };
+        Ok((journal, area.into_bodies()))
     }
 
     /// Adds a body of 1 to 2,097,152 bytes to an area that counts, with which it has at most `2^40`

@@ -9,7 +9,9 @@ mod device;
 mod fault;
 mod journal;
 pub mod laws;
+mod walk;
 
+pub use area::{Area, Ending};
 pub use fault::{AppendFault, LoadFault};
 pub use journal::Journal;
 

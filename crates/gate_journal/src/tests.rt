@@ -153,6 +153,54 @@ fn bytes_are_read_or_break(rt: HostRuntime) -> Result<(), Fail> {
     Ok(())
 }
 
+/// The area in the first `len` bytes of `ONE_BODY`, of which the one at `place` is changed: whether it
+/// counts, how many bodies it has, and where and how their records end.
+fn area_in(
+    alloc: Global,
+    len: usize,
+    place: usize,
+    byte: u8,
+) -> Result<Option<(bool, usize, u64, Ending)>, Fail> {
+    let mut bytes = ONE_BODY.to_vec(alloc)?;
+    bytes.truncate(len);
+    if place < bytes.len() {
+        bytes[place] = byte;
+    }
+    let mut disk = MemDisk::new(alloc, bytes, Vec::new(alloc));
+    match Area::read(alloc, &mut disk)? {
+        Some(area) => Ok(Some((
+            area.counts(),
+            area.bodies().len(),
+            area.end(),
+            area.ending(),
+        ))),
+        None => Ok(None),
+    }
+}
+
+#[test]
+fn an_area_is_read_whole_or_broken(rt: HostRuntime) -> Result<(), Fail> {
+    let alloc = rt.alloc();
+    let mut disk = disk_of(alloc, ONE_BODY, Vec::new(alloc))?;
+    let area = Area::read(alloc, &mut disk)?;
+    assert!(rt; area.is_some());
+    if let Some(area) = area {
+        assert_eq!(rt; area.generation(), 1);
+        assert_eq!(rt; area.place_of(0), 17);
+        assert_eq!(rt; area.place_of(area.bodies().len()), 31);
+    }
+    let whole = area_in(alloc, 32, 0, b'L')?;
+    assert_eq!(rt; whole, Some((true, 1, 31, Ending::Closed)));
+    let missing = area_in(alloc, 31, 0, b'L')?;
+    assert_eq!(rt; missing, Some((true, 1, 31, Ending::Missing)));
+    let unreadable = area_in(alloc, 25, 0, b'L')?;
+    assert_eq!(rt; unreadable, Some((true, 0, 17, Ending::Unreadable)));
+    let uncounted = area_in(alloc, 32, 8, 0)?;
+    assert_eq!(rt; uncounted, Some((false, 0, 17, Ending::Closed)));
+    assert_eq!(rt; area_in(alloc, 32, 0, b'M')?, None);
+    Ok(())
+}
+
 #[test]
 fn a_failed_call_is_told(rt: HostRuntime) -> Result<(), Fail> {
     let alloc = rt.alloc();

@@ -1,7 +1,7 @@
 use Rattle.std.proofs.Common.{◌∙◌, sym, take, drop, get_or, rules, arith}
 use Rattle.std.specs.Cmp.Lexicographic.{same_text}
 use Rattle.gate_journal.proofs.Reading.{head_read, not_other}
-use Rattle.gate_journal.proofs.area.read_head.Goals as goal
+use Rattle.gate_journal.proofs.walk.read_head.Goals as goal
 
 pub returns-clause-answer : goal.returns-clause-answer
 returns-clause-answer g c = λ tells.

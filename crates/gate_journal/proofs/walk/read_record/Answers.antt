@@ -1,7 +1,7 @@
 use Rattle.std.proofs.Common.{◌≡◌, ℕ, ◌+◌, ◌∙◌, sym, ap, length, take, drop, arith}
 use Rattle.std.proofs.lemmas.List.{take_at, drop-drop}
 use Rattle.gate_journal.proofs.Reading.{record_read}
-use Rattle.gate_journal.proofs.area.read_record.Goals as goal
+use Rattle.gate_journal.proofs.walk.read_record.Goals as goal
 
 pub returns-clause-answer : goal.returns-clause-answer
 returns-clause-answer g c = λ tells.

@@ -1,6 +1,6 @@
 use Rattle.std.proofs.Common.{rules}
 use Rattle.std.proofs.lemmas.Nat.{le_bytes_8}
-use Rattle.gate_journal.proofs.area.read_u64.Goals as goal
+use Rattle.gate_journal.proofs.walk.read_u64.Goals as goal
 
 pub returns-clause-spelling : goal.returns-clause-spelling
 returns-clause-spelling c = le_bytes_8 c.args.bytes _ (search rules) (search rules) c.from_le_bytes.ensures

@@ -1,12 +1,13 @@
 use Rattle.std.proofs.Common.{ℕ, ◌+◌, ◌∙◌, sym, ap, subst, List, [], ◌∷◌, ◌++◌, length, drop, All, arith, rules}
-use Rattle.std.specs.Prelude.{Option, Ok}
+use Rattle.std.specs.Prelude.{Ok}
 use Rattle.std.proofs.lemmas.List.Elements.{All-append, All-cons, All-nil}
 use Rattle.gate_journal.specs.Areas.{IsBody, blocks, end_of}
 use Rattle.gate_journal.specs.Walks.{ReadsBody}
+use Rattle.gate_journal.specs.declared.walk.Next.{Next}
 use Rattle.gate_journal.proofs.Blocks.{end-push}
 use Rattle.gate_journal.proofs.Moments.{looks_on}
 use Rattle.gate_journal.proofs.Reading.{walk_on}
-use Rattle.gate_journal.proofs.area.read_bodies.Goals as goal
+use Rattle.gate_journal.proofs.walk.read_bodies.Goals as goal
 
 -- one body more was read
 pub loop-bodies-preserved : goal.loop-bodies-preserved
@@ -17,15 +18,15 @@ loop-bodies-preserved g c =
     let d1 = c.loop-bodies.disk in
     let d2 = c.next_body.new.disk in
     let bodies = c.loop-bodies.bodies in
-    let body = c.in-Some.body in
+    let body = c.in-Body.body in
     let place = c.loop-bodies.place in
-    let pushed = c.in_ok-push.ensures.ok in
-    let found = λ (tells : D.tells). subst (λ (o : Option (List ℕ)). ReadsBody (drop place (D.seen d1)) place (Ok o)) c.in-Some.is (c.in_ok-body.ensures.answer tells) in
+    let pushed = c.in_ok-push-in-Body.ensures.ok in
+    let found = λ (tells : D.tells). subst (λ (n : Next). ReadsBody (drop place (D.seen d1)) (Ok n)) c.in-Body.is (c.in_ok-body.ensures.answer tells) in
     record {
       within = search rules;
       same = search rules;
       looks = λ tells. looks_on D.seen D.images D.unsynced D.done D.failed D.moment D.left_since d0 d1 d2 (inv.looks tells) (c.next_body.ensures.looks tells);
-      place_is = λ tells. omega (arith, inv.place_is tells, end-push bodies body, ap end_of pushed, c.len.ensures);
+      place_is = omega (arith, inv.place_is, end-push bodies body, ap end_of pushed, c.len.ensures);
       legal = λ tells. subst (All IsBody) (sym pushed) (All-append IsBody bodies (body ∷ []) (inv.legal tells) (All-cons IsBody body [] (found tells).2 (All-nil IsBody)));
       so_far = λ tells.
           let s = D.seen d0 in

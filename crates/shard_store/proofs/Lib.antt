@@ -1,0 +1,6 @@
+pub mod AreaFaults
+pub mod Listing
+pub mod LogBodies
+pub mod LogKnown
+pub mod LogSteps
+pub mod MapSteps

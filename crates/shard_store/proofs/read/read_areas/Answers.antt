@@ -1,0 +1,32 @@
+use Rattle.std.proofs.Common.{rules, true, false}
+use Rattle.std.proofs.lemmas.Result.{err_from_is_err_and}
+use Rattle.shard_store.specs.Stores.{OneCounts}
+use Rattle.shard_store.proofs.AreaFaults.{spare_fault, both_read, taken}
+use Rattle.shard_store.proofs.read.read_areas.Goals as goal
+
+pub returns-in_err-second : goal.returns-in_err-second
+returns-in_err-second c =
+    let a = c.args.main.now in
+    let b = c.args.spare.now in
+    let one : OneCounts a b = search rules in
+    let gates = c.in_ok-find_gates.ensures in
+    let p = err_from_is_err_and c.from_residual-in_err-second.result c.from_residual-in_err-second.ensures.1 in
+    rw p.1 (rw p.2 (spare_fault a b c.in_ok-first.first c.in_err-second.field-0.0 one gates.0 gates.1 c.in_ok-first.ensures c.in_err-second.ensures))
+
+pub returns-then-is_newer : goal.returns-then-is_newer
+returns-then-is_newer c =
+    let a = c.args.main.now in
+    let b = c.args.spare.now in
+    let one : OneCounts a b = search rules in
+    let gates = c.in_ok-find_gates.ensures in
+    let second = c.in_ok-second.ensures in
+    both_read a b c.in_ok-first.first c.in_ok-second.second second.0 c.streams_at_end.result one gates.0 gates.1 c.in_ok-first.ensures second (taken a b second.0 true c.if-is_newer.ensures second.1) (c.streams_at_end.ensures second.0 second.1.legal second.2)
+
+pub returns : goal.returns
+returns c =
+    let a = c.args.main.now in
+    let b = c.args.spare.now in
+    let one : OneCounts a b = search rules in
+    let gates = c.in_ok-find_gates.ensures in
+    let first = c.in_ok-first.ensures in
+    both_read a b c.in_ok-first.first c.in_ok-second.second first.0 c.streams_at_end-else-is_newer.result one gates.0 gates.1 first c.in_ok-second.ensures (taken a b first.0 false c.if-is_newer.ensures first.1) (c.streams_at_end-else-is_newer.ensures first.0 first.1.legal first.2)

@@ -1,0 +1,16 @@
+use Rattle.std.proofs.Common.{refl, sym, arith, ◌≡◌, ◌≤◌, Some}
+use Rattle.shard_store.specs.Logs.{boot}
+use Rattle.shard_store.specs.Replays.{found}
+use Rattle.shard_store.proofs.MapSteps.{writes}
+use Rattle.shard_store.proofs.LogKnown.{takes_change}
+use Rattle.shard_store.proofs.replay.Replay.take_change.Goals as goal
+
+pub returns-in-Some : goal.returns-in-Some
+returns-in-Some c = λ log legal is.
+    let b = is.boot_is in
+    let begun : 1 ≤ boot log = omega arith in
+    let here : found c.args.name.now c.args.self.now.names ≡ Some c.in-Some.known.now = rw (← c.bytes.ensures.value) (sym c.in-Some.ensures.value) in
+    let wrote = c.get_mut.follows.holds c.change.new.self in
+    takes_change c.args.self.now _ log c.args.name.now c.in-Some.known.now c.change.new.self c.args.entry c.change.result is begun here refl
+    (writes c.args.name.now c.bytes.result.now c.in-Some.known.now c.change.new.self c.args.self.now.names (c.get_mut.follows.lender c.change.new.self) c.bytes.ensures.value here wrote)
+    c.change.ensures

@@ -2,6 +2,7 @@ use crate::run::{Want, check_with};
 use leaf_edges::{MemSink, MemSource};
 use leafd_cli::Status;
 use leafd_script::ScriptKind;
+use nats_text::Bytes;
 use std::test::Fail;
 
 const SCRIPT: &[u8] = b"node hub\nstream hub S\npub hub S S a\n";
@@ -11,20 +12,23 @@ const USAGE: &[u8] =
 
 #[test]
 fn words_that_are_no_command(rt: HostRuntime) -> Result<(), Fail> {
-    let rows: [&[&str]; 6] = [
+    let rows: [&[&str]; 9] = [
         &[],
         &[""],
         &["drills"],
         &["drill", "drill"],
         &["serve", "leafd.toml"],
         &["Drill"],
+        &["inspect"],
+        &["inspect", "store", "store"],
+        &["drill", "store"],
     ];
     for words in rows {
         let alloc = rt.alloc();
         let input = MemSource::new(SCRIPT.to_vec(alloc)?, Vec::new(alloc));
         let out = MemSink::new(Vec::new(alloc), Vec::new(alloc));
         let want = Want {
-            status: Status::Usage,
+            number: 2,
             out: b"",
             err: USAGE,
         };
@@ -40,7 +44,7 @@ fn an_input_that_fails(rt: HostRuntime) -> Result<(), Fail> {
         let input = MemSource::new(SCRIPT.to_vec(alloc)?, vec![in alloc; call]?);
         let out = MemSink::new(Vec::new(alloc), Vec::new(alloc));
         let want = Want {
-            status: Status::ReadFault,
+            number: 3,
             out: b"",
             err: b"leafd: read fault\n",
         };
@@ -57,7 +61,7 @@ fn an_output_that_fails(rt: HostRuntime) -> Result<(), Fail> {
         let input = MemSource::new(SCRIPT.to_vec(alloc)?, Vec::new(alloc));
         let out = MemSink::new(Vec::new(alloc), vec![in alloc; call]?);
         let want = Want {
-            status: Status::WriteFault,
+            number: 4,
             out: report,
             err: b"leafd: write fault\n",
         };
@@ -67,18 +71,28 @@ fn an_output_that_fails(rt: HostRuntime) -> Result<(), Fail> {
 }
 
 #[test]
-fn statuses_have_their_numbers(rt: HostRuntime) -> Result<(), Fail> {
-    let statuses = [
-        (Status::Done, 0),
-        (crate::run::refused(1, ScriptKind::BadLine), 1),
-        (Status::Usage, 2),
-        (Status::ReadFault, 3),
-        (Status::WriteFault, 4),
-        (Status::NoMemory, 6),
-        (Status::ScriptTooLong, 7),
-    ];
-    for (status, number) in statuses {
-        assert_eq!(rt; status.number(), number);
-    }
-    Ok(())
+fn statuses_have_their_numbers(rt: HostRuntime) {
+    let alloc = rt.alloc();
+    let line = Status::ScriptFault {
+        line: 1,
+        kind: ScriptKind::BadLine,
+    };
+    let bad = Status::BadJournal {
+        name: Bytes::new(alloc),
+        place: 0,
+    };
+    let long = Status::JournalTooLong {
+        name: Bytes::new(alloc),
+        len: 0,
+    };
+    assert_eq!(rt; Status::Done.number(), 0);
+    assert_eq!(rt; line.number(), 1);
+    assert_eq!(rt; Status::Usage.number(), 2);
+    assert_eq!(rt; Status::ReadFault.number(), 3);
+    assert_eq!(rt; Status::WriteFault.number(), 4);
+    assert_eq!(rt; Status::DiskFault.number(), 5);
+    assert_eq!(rt; Status::NoMemory.number(), 6);
+    assert_eq!(rt; Status::ScriptTooLong.number(), 7);
+    assert_eq!(rt; bad.number(), 8);
+    assert_eq!(rt; long.number(), 12);
 }

@@ -1,6 +1,4 @@
-use crate::run::{Want, check, refused};
-use leafd_cli::Status;
-use leafd_script::ScriptKind;
+use crate::run::{Want, check};
 use std::alloc::{AllocError, Global};
 use std::test::Fail;
 
@@ -19,14 +17,14 @@ fn a_script_has_a_longest_length(rt: HostRuntime) -> Result<(), Fail> {
     let alloc = rt.alloc();
     let longest = vec![in alloc; b'\n'; LONGEST]?;
     let want = Want {
-        status: Status::Done,
+        number: 0,
         out: b"",
         err: b"",
     };
     check(&rt, rt.alloc(), &longest, &want)?;
     let longer = vec![in alloc; b'\n'; LONGEST + 1]?;
     let want = Want {
-        status: Status::ScriptTooLong,
+        number: 7,
         out: b"",
         err: b"leafd: script too long\n",
     };
@@ -39,14 +37,14 @@ fn a_payload_has_a_longest_length(rt: HostRuntime) -> Result<(), Fail> {
     let front = b"node hub\nstream hub S\npub hub S S ";
     let longest = joined(alloc, front, b'a', LONGEST_PAYLOAD)?;
     let want = Want {
-        status: Status::Done,
+        number: 0,
         out: b"2 made\n3 stored 1\n",
         err: b"",
     };
     check(&rt, rt.alloc(), &longest, &want)?;
     let longer = joined(alloc, front, b'a', LONGEST_PAYLOAD + 1)?;
     let want = Want {
-        status: refused(3, ScriptKind::TooMany),
+        number: 1,
         out: b"2 made\n",
         err: b"leafd: line 3: TooMany\n",
     };
@@ -56,9 +54,9 @@ fn a_payload_has_a_longest_length(rt: HostRuntime) -> Result<(), Fail> {
 #[test]
 fn bad_bytes_end_a_script_at_their_line(rt: HostRuntime) -> Result<(), Fail> {
     let alloc = rt.alloc();
-    let name = (ScriptKind::BadName, b"leafd: line 3: BadName\n".as_slice());
-    let line = (ScriptKind::BadLine, b"leafd: line 3: BadLine\n".as_slice());
-    let rows: [(Vec<u8>, (ScriptKind, &[u8])); 7] = [
+    let name = b"leafd: line 3: BadName\n".as_slice();
+    let line = b"leafd: line 3: BadLine\n".as_slice();
+    let rows: [(Vec<u8>, &[u8]); 7] = [
         (joined(alloc, b"node ", b'n', 65)?, name),
         (joined(alloc, b"stream hub ", b'n', 65)?, name),
         (joined(alloc, b"", b'n', 3_000_000)?, line),
@@ -67,15 +65,15 @@ fn bad_bytes_end_a_script_at_their_line(rt: HostRuntime) -> Result<(), Fail> {
         (joined(alloc, b"node ", 0, 1)?, name),
         (
             joined(alloc, b"pub hub S ", 0xff, 1)?,
-            (ScriptKind::BadSubject, b"leafd: line 3: BadSubject\n"),
+            b"leafd: line 3: BadSubject\n",
         ),
     ];
-    for (line, (kind, err)) in &rows {
+    for (line, err) in &rows {
         let mut script = b"node hub\nstream hub S\n".to_vec(alloc)?;
         script.extend_from_slice(line)?;
         script.extend_from_slice(b"\nstream hub U\n")?;
         let want = Want {
-            status: refused(3, *kind),
+            number: 1,
             out: b"2 made\n",
             err,
         };
@@ -88,7 +86,7 @@ fn bad_bytes_end_a_script_at_their_line(rt: HostRuntime) -> Result<(), Fail> {
 fn a_name_may_have_64_bytes(rt: HostRuntime) -> Result<(), Fail> {
     let script = joined(rt.alloc(), b"node ", b'n', 64)?;
     let want = Want {
-        status: Status::Done,
+        number: 0,
         out: b"",
         err: b"",
     };
@@ -100,7 +98,7 @@ fn a_script_has_at_most_16_nodes(rt: HostRuntime) -> Result<(), Fail> {
     let script =
         b"node a\nnode b\nnode c\nnode d\nnode e\nnode f\nnode g\nnode h\nnode i\nnode j\nnode k\nnode l\nnode m\nnode n\nnode o\nnode p\nnode q\n";
     let want = Want {
-        status: refused(17, ScriptKind::TooMany),
+        number: 1,
         out: b"",
         err: b"leafd: line 17: TooMany\n",
     };

@@ -1,6 +1,4 @@
-use crate::run::{Want, check, refused};
-use leafd_cli::Status;
-use leafd_script::ScriptKind;
+use crate::run::{Want, check};
 use std::test::Fail;
 
 #[test]
@@ -79,7 +77,7 @@ fn scripts_print_their_reports(rt: HostRuntime) -> Result<(), Fail> {
     ];
     for (script, out) in rows {
         let want = Want {
-            status: Status::Done,
+            number: 0,
             out,
             err: b"",
         };
@@ -90,173 +88,54 @@ fn scripts_print_their_reports(rt: HostRuntime) -> Result<(), Fail> {
 
 #[test]
 fn a_line_that_is_not_legal_ends_a_script(rt: HostRuntime) -> Result<(), Fail> {
-    let lines: [(&[u8], ScriptKind, &[u8]); 36] = [
-        (
-            b"lose hub leaf1 1",
-            ScriptKind::NotYet,
-            b"leafd: line 5: NotYet\n",
-        ),
-        (
-            b"sources hub ALL from=hub/S",
-            ScriptKind::NotYet,
-            b"leafd: line 5: NotYet\n",
-        ),
-        (
-            b"stream hub T transform=a=>b",
-            ScriptKind::NotYet,
-            b"leafd: line 5: NotYet\n",
-        ),
-        (
-            b"mirror leaf1 M leaf1 C",
-            ScriptKind::NotYet,
-            b"leafd: line 5: NotYet\n",
-        ),
-        (
-            b"update hub S filter=a x=",
-            ScriptKind::NotYet,
-            b"leafd: line 5: NotYet\n",
-        ),
-        (b"node", ScriptKind::BadLine, b"leafd: line 5: BadLine\n"),
-        (
-            b"node a b",
-            ScriptKind::BadLine,
-            b"leafd: line 5: BadLine\n",
-        ),
-        (b"settle ", ScriptKind::BadLine, b"leafd: line 5: BadLine\n"),
-        (
-            b"settle now",
-            ScriptKind::BadLine,
-            b"leafd: line 5: BadLine\n",
-        ),
-        (b" settle", ScriptKind::BadLine, b"leafd: line 5: BadLine\n"),
-        (b"Settle", ScriptKind::BadLine, b"leafd: line 5: BadLine\n"),
-        (
-            b"stream hub T subject=a",
-            ScriptKind::BadLine,
-            b"leafd: line 5: BadLine\n",
-        ),
-        (
-            b"update hub S window=1",
-            ScriptKind::BadLine,
-            b"leafd: line 5: BadLine\n",
-        ),
+    let lines: [(&[u8], &[u8]); 36] = [
+        (b"lose hub leaf1 1", b"leafd: line 5: NotYet\n"),
+        (b"sources hub ALL from=hub/S", b"leafd: line 5: NotYet\n"),
+        (b"stream hub T transform=a=>b", b"leafd: line 5: NotYet\n"),
+        (b"mirror leaf1 M leaf1 C", b"leafd: line 5: NotYet\n"),
+        (b"update hub S filter=a x=", b"leafd: line 5: NotYet\n"),
+        (b"node", b"leafd: line 5: BadLine\n"),
+        (b"node a b", b"leafd: line 5: BadLine\n"),
+        (b"settle ", b"leafd: line 5: BadLine\n"),
+        (b"settle now", b"leafd: line 5: BadLine\n"),
+        (b" settle", b"leafd: line 5: BadLine\n"),
+        (b"Settle", b"leafd: line 5: BadLine\n"),
+        (b"stream hub T subject=a", b"leafd: line 5: BadLine\n"),
+        (b"update hub S window=1", b"leafd: line 5: BadLine\n"),
         (
             b"mirror leaf1 M hub S subjects=a",
-            ScriptKind::BadLine,
             b"leafd: line 5: BadLine\n",
         ),
         (
             b"stream hub T max_msgs=1 max_msgs=1",
-            ScriptKind::BadLine,
             b"leafd: line 5: BadLine\n",
         ),
-        (
-            b"node API",
-            ScriptKind::BadName,
-            b"leafd: line 5: BadName\n",
-        ),
-        (
-            b"node a.b",
-            ScriptKind::BadName,
-            b"leafd: line 5: BadName\n",
-        ),
-        (
-            b"stream hub a.b max_msgs=x",
-            ScriptKind::BadName,
-            b"leafd: line 5: BadName\n",
-        ),
-        (
-            b"pub hub S a..b x",
-            ScriptKind::BadSubject,
-            b"leafd: line 5: BadSubject\n",
-        ),
-        (
-            b"purge hub S a..b x",
-            ScriptKind::BadSubject,
-            b"leafd: line 5: BadSubject\n",
-        ),
-        (
-            b"del hub S x",
-            ScriptKind::BadNumber,
-            b"leafd: line 5: BadNumber\n",
-        ),
-        (
-            b"clock 9223372036854775808",
-            ScriptKind::BadNumber,
-            b"leafd: line 5: BadNumber\n",
-        ),
-        (
-            b"stream hub T subjects=a..b",
-            ScriptKind::BadOption,
-            b"leafd: line 5: BadOption\n",
-        ),
-        (
-            b"stream hub T subjects=a,a",
-            ScriptKind::BadOption,
-            b"leafd: line 5: BadOption\n",
-        ),
+        (b"node API", b"leafd: line 5: BadName\n"),
+        (b"node a.b", b"leafd: line 5: BadName\n"),
+        (b"stream hub a.b max_msgs=x", b"leafd: line 5: BadName\n"),
+        (b"pub hub S a..b x", b"leafd: line 5: BadSubject\n"),
+        (b"purge hub S a..b x", b"leafd: line 5: BadSubject\n"),
+        (b"del hub S x", b"leafd: line 5: BadNumber\n"),
+        (b"clock 9223372036854775808", b"leafd: line 5: BadNumber\n"),
+        (b"stream hub T subjects=a..b", b"leafd: line 5: BadOption\n"),
+        (b"stream hub T subjects=a,a", b"leafd: line 5: BadOption\n"),
         (
             b"stream hub T subjects=$JS.a",
-            ScriptKind::BadOption,
             b"leafd: line 5: BadOption\n",
         ),
-        (
-            b"update hub S max_age=1",
-            ScriptKind::BadOption,
-            b"leafd: line 5: BadOption\n",
-        ),
-        (
-            b"node hub",
-            ScriptKind::NodeTaken,
-            b"leafd: line 5: NodeTaken\n",
-        ),
-        (
-            b"show leaf2 S",
-            ScriptKind::NoNode,
-            b"leafd: line 5: NoNode\n",
-        ),
-        (
-            b"stream leaf2 T",
-            ScriptKind::NoNode,
-            b"leafd: line 5: NoNode\n",
-        ),
-        (
-            b"stream hub S",
-            ScriptKind::StreamTaken,
-            b"leafd: line 5: StreamTaken\n",
-        ),
-        (
-            b"mirror leaf1 C hub S",
-            ScriptKind::StreamTaken,
-            b"leafd: line 5: StreamTaken\n",
-        ),
-        (
-            b"show hub T",
-            ScriptKind::NoStream,
-            b"leafd: line 5: NoStream\n",
-        ),
-        (
-            b"mirror leaf1 M hub T",
-            ScriptKind::NoStream,
-            b"leafd: line 5: NoStream\n",
-        ),
-        (
-            b"log leaf1 S",
-            ScriptKind::NoStream,
-            b"leafd: line 5: NoStream\n",
-        ),
-        (
-            b"stream hub T subjects=S",
-            ScriptKind::Overlap,
-            b"leafd: line 5: Overlap\n",
-        ),
-        (
-            b"stream hub T subjects=*",
-            ScriptKind::Overlap,
-            b"leafd: line 5: Overlap\n",
-        ),
+        (b"update hub S max_age=1", b"leafd: line 5: BadOption\n"),
+        (b"node hub", b"leafd: line 5: NodeTaken\n"),
+        (b"show leaf2 S", b"leafd: line 5: NoNode\n"),
+        (b"stream leaf2 T", b"leafd: line 5: NoNode\n"),
+        (b"stream hub S", b"leafd: line 5: StreamTaken\n"),
+        (b"mirror leaf1 C hub S", b"leafd: line 5: StreamTaken\n"),
+        (b"show hub T", b"leafd: line 5: NoStream\n"),
+        (b"mirror leaf1 M hub T", b"leafd: line 5: NoStream\n"),
+        (b"log leaf1 S", b"leafd: line 5: NoStream\n"),
+        (b"stream hub T subjects=S", b"leafd: line 5: Overlap\n"),
+        (b"stream hub T subjects=*", b"leafd: line 5: Overlap\n"),
     ];
-    for (line, kind, err) in lines {
+    for (line, err) in lines {
         let alloc = rt.alloc();
         let mut script = b"node hub\nstream hub S\nnode leaf1\nmirror leaf1 C hub S\n".to_vec(
             alloc,
@@ -264,7 +143,7 @@ fn a_line_that_is_not_legal_ends_a_script(rt: HostRuntime) -> Result<(), Fail> {
         script.extend_from_slice(line)?;
         script.extend_from_slice(b"\nnode last\n")?;
         let want = Want {
-            status: refused(5, kind),
+            number: 1,
             out: b"2 made\n4 made\n",
             err,
         };

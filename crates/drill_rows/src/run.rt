@@ -1,6 +1,6 @@
 use leaf_edges::{MemSink, MemSource};
-use leafd_cli::{Status, leafd_run};
-use leafd_script::ScriptKind;
+use leafd_cli::leafd_run;
+use mem_disk::{MemFiles, SetClock};
 use std::alloc::Global;
 use std::process::Abort;
 use std::test::Fail;
@@ -8,14 +8,10 @@ use std::test::Fail;
 /// What a drill has to end with, to print, and to tell of it.
 #[derive(Clone, Copy)]
 pub struct Want<'a> {
-    pub status: Status,
+    /// The number of the status. Its line is what is told.
+    pub number: u8,
     pub out: &'a [u8],
     pub err: &'a [u8],
-}
-
-/// A script whose line of this number isn't legal in its place.
-pub fn refused(line: u64, kind: ScriptKind) -> Status {
-    Status::ScriptFault { line, kind }
 }
 
 /// Runs `leafd drill` over a script.
@@ -41,8 +37,12 @@ pub fn check_with(
     for word in words {
         texts.push(String::from_str(alloc, word)?)?;
     }
-    let status = leafd_run(alloc, &texts, &mut input, &mut out, &mut err);
-    assert_eq!(rt; status, want.status);
+    let mut files = MemFiles::new(alloc, Vec::new(alloc), Vec::new(alloc), Vec::new(alloc));
+    let mut clock = SetClock::new(Vec::new(alloc));
+    let status = leafd_run(
+        alloc, &texts, &mut input, &mut out, &mut err, &mut files, &mut clock,
+    );
+    assert_eq!(rt; status.number(), want.number);
     assert_eq!(rt; out.bytes(), want.out);
     assert_eq!(rt; err.bytes(), want.err);
     Ok(())

@@ -2,7 +2,7 @@
 //! `leafd_cli::leafd_run`.
 #![tactic(auto)]
 
-use leaf_edges::{StdErr, StdIn, StdOut};
+use leaf_edges::{DirFiles, StdErr, StdIn, StdOut, SysClock};
 use leafd_cli::{Status, leafd_run};
 use std::alloc::{AllocError, Global};
 use std::env;
@@ -10,13 +10,17 @@ use std::process::ExitCode;
 
 fn main(rt: HostRuntime) -> ExitCode {
     let alloc = rt.alloc();
-    let Ok(words) = words(rt, alloc) else {
+    let (Ok(words), Ok(folder)) = (words(rt, alloc), String::from_str(alloc, ".")) else {
         return ExitCode::from(Status::NoMemory.number());
     };
     let mut input = StdIn::new(rt.stdin());
     let mut out = StdOut::new(rt.stdout());
     let mut err = StdErr::new(rt.stderr());
-    let status = leafd_run(alloc, &words, &mut input, &mut out, &mut err);
+    let mut files = DirFiles::new(rt, folder);
+    let mut clock = SysClock::new(rt);
+    let status = leafd_run(
+        alloc, &words, &mut input, &mut out, &mut err, &mut files, &mut clock,
+    );
     ExitCode::from(status.number())
 }
 

@@ -5,10 +5,13 @@ mod Placing
 mod Following
 mod Fronts
 mod Growing
+mod Handing
 mod Joined
 mod Leading
 mod Numbers
 mod Past
+mod Pushing
 mod Settles
+mod Sparing
 mod Steps
 mod Work

@@ -1,6 +1,9 @@
 pub mod Book
 pub mod Copies
 pub mod Effects
+pub mod Folders
+pub mod Inspecting
+pub mod Inspections
 pub mod Keeping
 pub mod Legal
 pub mod Logs

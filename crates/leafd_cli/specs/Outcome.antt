@@ -1,12 +1,12 @@
 -- How a command may end, and what it has then read and written.
-use Rattle.std.specs.Prelude.{◌≡◌, ◌⊎◌, ℕ, ◌+◌, ◌<◌, ◌≤◌, List, [], ◌∷◌, ◌++◌, length, Bool, false, Option, None, Some, Err, codes, decimal}
+use Rattle.std.specs.Prelude.{◌≡◌, ◌⊎◌, ℕ, ◌+◌, ◌-◌, ◌^◌, ◌<◌, ◌≤◌, min, List, [], ◌∷◌, ◌++◌, length, Bool, false, ◌||◌, if◌then◌else◌, MatchBool, MatchOption, Option, None, Some, is_some, Err, codes, decimal}
 use Rattle.std.specs.Str.{bytes_eq}
 use Rattle.std.specs.Io.KnownBytes.{Appends, Keeps, Consumes, IsAtEnd}
 use Rattle.leaf_edges.specs.Causes.{Rose, AppendsPrefix}
 use Rattle.leafd_script.specs.declared.fault.ScriptKind.{ScriptKind}
 use Rattle.leafd_script.specs.Kinds.{kind_word}
 use Rattle.leafd_cli.specs.declared.status.Status.{Status}
-use Rattle.leafd_cli.specs.declared.status.Status.TheVariants.{Done, ScriptFault, Usage, ReadFault, WriteFault, NoMemory, ScriptTooLong}
+use Rattle.leafd_cli.specs.declared.status.Status.TheVariants.{Done, ScriptFault, Usage, ReadFault, WriteFault, DiskFault, NoMemory, ScriptTooLong, BadJournal, JournalTooLong}
 use Rattle.leafd_cli.specs.Logs.{Logs, no_logs}
 use Rattle.leafd_cli.specs.Rows.{Row, rows_of}
 use Rattle.leafd_cli.specs.Legal.{judged}
@@ -19,8 +19,11 @@ status_number (ScriptFault line kind) = 1
 status_number Usage = 2
 status_number ReadFault = 3
 status_number WriteFault = 4
+status_number DiskFault = 5
 status_number NoMemory = 6
 status_number ScriptTooLong = 7
+status_number (BadJournal name place) = 8
+status_number (JournalTooLong name len) = 12
 
 -- the line by which a status is told, none where all is done
 abbrev pub status_line : Status → List ℕ
@@ -29,14 +32,32 @@ status_line (ScriptFault line kind) = codes "leafd: line " ++ (decimal line ++ (
 status_line Usage = codes "leafd: usage: leafd drill | make NUMBER LINES | trial NUMBER LINES | check CONF | inspect DIR | map SRC DEST SUBJECT | serve CONF\n"
 status_line ReadFault = codes "leafd: read fault\n"
 status_line WriteFault = codes "leafd: write fault\n"
+status_line DiskFault = codes "leafd: disk fault\n"
 status_line NoMemory = codes "leafd: out of memory\n"
 status_line ScriptTooLong = codes "leafd: script too long\n"
+status_line (BadJournal name place) = codes "leafd: bad journal " ++ (name ++ (codes " at " ++ (decimal place ++ codes "\n")))
+status_line (JournalTooLong name len) = codes "leafd: journal too long " ++ (name ++ codes "\n")
 
--- the words that are a command: `drill` alone yet
+-- the words are `drill` alone
+abbrev pub is_drill : List (List ℕ) → Bool
+is_drill [] = false
+is_drill (word ∷ []) = bytes_eq word (codes "drill")
+is_drill (word ∷ next ∷ words) = false
+
+-- the folder behind the word `inspect`
+abbrev pub folder : List (List ℕ) → Option (List ℕ)
+folder [] = None
+folder (word ∷ []) = None
+folder (word ∷ dir ∷ []) = if bytes_eq word (codes "inspect") then Some dir else None
+folder (word ∷ dir ∷ next ∷ words) = None
+
+-- the words that are a command
 abbrev pub are_command : List (List ℕ) → Bool
-are_command [] = false
-are_command (word ∷ []) = bytes_eq word (codes "drill")
-are_command (word ∷ next ∷ words) = false
+are_command words = is_drill words || is_some (folder words)
+
+-- what holds of a drill, of an inspection of a folder, and of words that are no command
+abbrev pub ByWords : List (List ℕ) → Type 0 → (List ℕ → Type 0) → Type 0 → Type 0
+ByWords words drills inspects neither = MatchBool (is_drill words) drills (MatchOption (folder words) neither inspects)
 
 -- a source gave this text and then its end
 pub record IsRead (old new : Option (List ℕ)) (text : List ℕ) : Type 0 where
@@ -89,11 +110,14 @@ pub record ReportsInPart (left rest before after : Option (List ℕ)) : Type 0 w
 abbrev pub Drills : Option (List ℕ) → Option (List ℕ) → Option (List ℕ) → Option (List ℕ) → Status → Type 0
 Drills left rest before after Done = Reports left rest before after
 Drills left rest before after (ScriptFault line kind) = ReportsBefore line kind left rest before after
-Drills left rest before after Usage = Keeps left rest × Keeps before after
+Drills left rest before after Usage = ⊥
 Drills left rest before after ReadFault = Keeps before after
 Drills left rest before after WriteFault = ReportsInPart left rest before after
 Drills left rest before after NoMemory = Keeps before after ⊎ ReportsInPart left rest before after
+Drills left rest before after DiskFault = ⊥
 Drills left rest before after ScriptTooLong = IsTooLong left × Keeps before after
+Drills left rest before after (BadJournal name place) = ⊥
+Drills left rest before after (JournalTooLong name len) = ⊥
 
 -- what was told of a status: nothing where all is done, else a prefix of its line
 abbrev pub Tells : Option (List ℕ) → Option (List ℕ) → Status → Type 0
@@ -103,9 +127,12 @@ Tells before after Usage = AppendsPrefix before after (status_line Usage)
 Tells before after ReadFault = AppendsPrefix before after (status_line ReadFault)
 Tells before after WriteFault = AppendsPrefix before after (status_line WriteFault)
 Tells before after NoMemory = AppendsPrefix before after (status_line NoMemory)
+Tells before after DiskFault = AppendsPrefix before after (status_line DiskFault)
 Tells before after ScriptTooLong = AppendsPrefix before after (status_line ScriptTooLong)
+Tells before after (BadJournal name place) = AppendsPrefix before after (status_line (BadJournal name place))
+Tells before after (JournalTooLong name len) = AppendsPrefix before after (status_line (JournalTooLong name len))
 
--- ReadFault comes only where the count of faults of the input rose, and at every other status it didn't
+-- ReadFault comes only where the count of faults of what is read rose, and at every other status it didn't
 abbrev pub CountsRead : ℕ → ℕ → Status → Type 0
 CountsRead before now ReadFault = Rose before now
 CountsRead before now Done = now ≡ before
@@ -113,7 +140,10 @@ CountsRead before now (ScriptFault line kind) = now ≡ before
 CountsRead before now Usage = now ≡ before
 CountsRead before now WriteFault = now ≡ before
 CountsRead before now NoMemory = now ≡ before
+CountsRead before now DiskFault = now ≡ before
 CountsRead before now ScriptTooLong = now ≡ before
+CountsRead before now (BadJournal name place) = now ≡ before
+CountsRead before now (JournalTooLong name len) = now ≡ before
 
 -- WriteFault comes only where the count of faults of the output rose, and at every other status it didn't
 abbrev pub CountsWrite : ℕ → ℕ → Status → Type 0
@@ -123,7 +153,24 @@ CountsWrite before now (ScriptFault line kind) = now ≡ before
 CountsWrite before now Usage = now ≡ before
 CountsWrite before now ReadFault = now ≡ before
 CountsWrite before now NoMemory = now ≡ before
+CountsWrite before now DiskFault = now ≡ before
 CountsWrite before now ScriptTooLong = now ≡ before
+CountsWrite before now (BadJournal name place) = now ≡ before
+CountsWrite before now (JournalTooLong name len) = now ≡ before
+
+-- DiskFault comes only where the files' count of disk faults went up by one, up to its type's end, and at every other
+-- status it didn't
+abbrev pub CountsDisks : ℕ → ℕ → Status → Type 0
+CountsDisks before now DiskFault = now ≡ min (before + 1) (2 ^ 64 - 1)
+CountsDisks before now Done = now ≡ before
+CountsDisks before now (ScriptFault line kind) = now ≡ before
+CountsDisks before now Usage = now ≡ before
+CountsDisks before now ReadFault = now ≡ before
+CountsDisks before now WriteFault = now ≡ before
+CountsDisks before now NoMemory = now ≡ before
+CountsDisks before now ScriptTooLong = now ≡ before
+CountsDisks before now (BadJournal name place) = now ≡ before
+CountsDisks before now (JournalTooLong name len) = now ≡ before
 
 -- how the reading of a source ended: at its end, or past the most bytes of a script
 abbrev pub Gathers : Option (List ℕ) → Option (List ℕ) → List ℕ → Type 0

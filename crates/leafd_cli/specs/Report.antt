@@ -62,8 +62,12 @@ origins_text s (Sources wants) = []
 abbrev pub title_text : StreamLog → List ℕ
 title_text s = codes "stream " ++ (s.node ++ 32 ∷ s.config.name)
 
+-- the first and last number, and how many messages are kept
+abbrev pub numbers_text : ℕ → ℕ → ℕ → List ℕ
+numbers_text first last count = codes " first " ++ (decimal first ++ (codes " last " ++ (decimal last ++ (codes " kept " ++ (decimal count ++ 10 ∷ [])))))
+
 abbrev pub counts_text : StreamLog → List ℕ
-counts_text s = codes " first " ++ (decimal (first_of (kept (history_of s)) (last s.entries)) ++ (codes " last " ++ (decimal (last s.entries) ++ (codes " kept " ++ (decimal (length (kept (history_of s))) ++ 10 ∷ [])))))
+counts_text s = numbers_text (first_of (kept (history_of s)) (last s.entries)) (last s.entries) (length (kept (history_of s)))
 
 -- how far a stream has come: its node and name, the first and last number, how many are kept, and
 -- the lines of its origins

@@ -8,7 +8,7 @@ use Rattle.leafd_script.specs.declared.fault.ScriptKind.{ScriptKind}
 use Rattle.leafd_script.specs.declared.fault.LineFault.{LineFault}
 use Rattle.leafd_cli.specs.declared.drill.Stop.{Stop}
 use Rattle.leafd_cli.specs.declared.status.Status.{Status}
-use Rattle.leafd_cli.specs.declared.status.Status.TheVariants.{Done, ScriptFault, Usage, ReadFault, WriteFault, NoMemory, ScriptTooLong}
+use Rattle.leafd_cli.specs.declared.status.Status.TheVariants.{Done, ScriptFault, Usage, ReadFault, WriteFault, DiskFault, NoMemory, ScriptTooLong, BadJournal, JournalTooLong}
 use Rattle.leafd_cli.specs.Logs.{Logs, no_logs}
 use Rattle.leafd_cli.specs.Rows.{Row, rows_of}
 use Rattle.leafd_cli.specs.Legal.{judged, fault_of}
@@ -118,4 +118,7 @@ RanTo text before after WriteFault = IsPart text before after
 RanTo text before after NoMemory = IsPart text before after
 RanTo text before after Usage = ⊥
 RanTo text before after ReadFault = ⊥
+RanTo text before after DiskFault = ⊥
 RanTo text before after ScriptTooLong = ⊥
+RanTo text before after (BadJournal name place) = ⊥
+RanTo text before after (JournalTooLong name len) = ⊥

@@ -1,10 +1,12 @@
-//! The commands of `leafd`: `drill` runs a script and prints the report of a right book.
+//! The commands of `leafd`: `drill` runs a script and prints the report of a right book, and `inspect`
+//! prints what a store holds.
 #![tactic(auto)]
 
 mod drill;
 mod effects;
 mod finding;
 mod input;
+mod inspect;
 mod legal;
 mod operation;
 mod report;

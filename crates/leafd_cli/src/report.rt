@@ -2,7 +2,7 @@ ghost use Rattle.std.specs.Prelude.{◌≡◌, ◌++◌, ◌∷◌, [], IfOk, On
 ghost use Rattle.std.specs.List.{flat_map};
 ghost use Rattle.std.specs.Option.{option_copied};
 ghost use Rattle.leafd_cli.specs.Effects.{counted};
-ghost use Rattle.leafd_cli.specs.Report.{log_title, answer, answer_if, row_text, message_text, pair_text, pairs_text, origins_text, front_text, node_text, title_text, counts_text, head_text, show_text, mark_text, entry_text, log_text, streams_on, heads_text};
+ghost use Rattle.leafd_cli.specs.Report.{log_title, answer, answer_if, row_text, message_text, pair_text, pairs_text, origins_text, front_text, node_text, title_text, numbers_text, counts_text, head_text, show_text, mark_text, entry_text, log_text, streams_on, heads_text};
 
 use crate::stream::Stream;
 use crate::texts::{push_counted, push_hex, push_number, push_text};
@@ -187,7 +187,8 @@ fn push_row(alloc: Global, report: &mut Vec<u8>, row: &Numbered) -> Result<(), N
     push_pairs(report, row.message.headers.pairs())
 }
 
-fn push_rows(alloc: Global, report: &mut Vec<u8>, rows: &[Numbered]) -> Result<(), NoMemory>
+/// The messages that are kept.
+pub fn push_rows(alloc: Global, report: &mut Vec<u8>, rows: &[Numbered]) -> Result<(), NoMemory>
     ensures { OnOk result (report.new.items ≡ report.old.items ++ flat_map row_text rows.now) }
 {
     for row in rows {
@@ -238,12 +239,19 @@ fn push_title(report: &mut Vec<u8>, stream: &Stream) -> Result<(), NoMemory>
 fn push_counts(report: &mut Vec<u8>, stream: &Stream) -> Result<(), NoMemory>
     ensures { OnOk result (report.new.items ≡ report.old.items ++ counts_text stream.now) }
 {
+    push_numbers(report, stream.first(), stream.last(), stream.count())
+}
+
+/// The first and last number, and how many messages are kept.
+pub fn push_numbers(report: &mut Vec<u8>, first: u64, last: u64, count: u64) -> Result<(), NoMemory>
+    ensures { OnOk result (report.new.items ≡ report.old.items ++ numbers_text first last count) }
+{
     push_text(report, b" first ")?;
-    push_number(report, stream.first())?;
+    push_number(report, first)?;
     push_text(report, b" last ")?;
-    push_number(report, stream.last())?;
+    push_number(report, last)?;
     push_text(report, b" kept ")?;
-    push_number(report, stream.count())?;
+    push_number(report, count)?;
     push_text(report, b"\n")
 }
 

@@ -2,9 +2,10 @@ ghost use Rattle.std.specs.Prelude.{◌≡◌};
 ghost use Rattle.leafd_cli.specs.Outcome.{status_number};
 
 use leafd_script::ScriptKind;
+use nats_text::Bytes;
 
 /// How a command ended.
-#[derive(Clone, Copy, Debug, PartialEq, Eq)]
+#[derive(Debug, Drop, PartialEq)]
 pub enum Status {
     /// The whole report was written, and the input was read to its end.
     Done,
@@ -13,20 +14,27 @@ pub enum Status {
     ScriptFault { line: u64, kind: ScriptKind },
     /// The words are no command.
     Usage,
-    /// The input failed. Nothing was written.
+    /// The input failed, or the folder of a store. Nothing was written.
     ReadFault,
     /// The output failed. A prefix of the report was written.
     WriteFault,
+    /// A disk of a store failed. Nothing was written.
+    DiskFault,
     /// There was no memory. A prefix of the report was written.
     NoMemory,
     /// The script has more than 16,777,216 bytes. Nothing was run.
     ScriptTooLong,
+    /// The bytes of the file of this name are no journal. The place is in bytes from the file's first.
+    /// Nothing was written.
+    BadJournal { name: Bytes, place: u64 },
+    /// The file of this name has more than `2^40` bytes, namely this many. Nothing was written.
+    JournalTooLong { name: Bytes, len: u64 },
 }
 
 impl Status {
     /// The number that the process ends with.
-    pub fn number(self) -> u8
-        ensures { result ≡ status_number self }
+    pub fn number(&self) -> u8
+        ensures { result ≡ status_number self.now }
     {
         match self {
             Status::Done => 0,
@@ -34,8 +42,11 @@ impl Status {
             Status::Usage => 2,
             Status::ReadFault => 3,
             Status::WriteFault => 4,
+            Status::DiskFault => 5,
             Status::NoMemory => 6,
             Status::ScriptTooLong => 7,
+            Status::BadJournal { .. } => 8,
+            Status::JournalTooLong { .. } => 12,
         }
     }
 }

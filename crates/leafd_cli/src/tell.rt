@@ -13,17 +13,20 @@ const USAGE: &[u8] =
     b"leafd: usage: leafd drill | make NUMBER LINES | trial NUMBER LINES | check CONF | inspect DIR | map SRC DEST SUBJECT | serve CONF\n";
 
 /// Writes the line of a status, without taking memory. A fault of the sink is passed over.
-pub fn tell<E: Sink>(err: &mut E, status: Status)
-    ensures { Tells (E.taken err.old) (E.taken err.new) status }
+pub fn tell<E: Sink>(err: &mut E, status: &Status)
+    ensures { Tells (E.taken err.old) (E.taken err.new) status.now }
 {
     let _ = match status {
         Status::Done => Ok(()),
-        Status::ScriptFault { line, kind } => tell_line(err, line, kind),
+        Status::ScriptFault { line, kind } => tell_line(err, *line, *kind),
         Status::Usage => pump_all(err, USAGE),
         Status::ReadFault => pump_all(err, b"leafd: read fault\n"),
         Status::WriteFault => pump_all(err, b"leafd: write fault\n"),
+        Status::DiskFault => pump_all(err, b"leafd: disk fault\n"),
         Status::NoMemory => pump_all(err, b"leafd: out of memory\n"),
         Status::ScriptTooLong => pump_all(err, b"leafd: script too long\n"),
+        Status::BadJournal { name, place } => tell_place(err, name.as_slice(), *place),
+        Status::JournalTooLong { name, .. } => tell_file(err, name.as_slice()),
     };
 }
 
@@ -35,6 +38,22 @@ fn tell_line<E: Sink>(err: &mut E, line: u64, kind: ScriptKind) -> Result<(), Ed
     let number = digits.format(line).as_bytes();
     let word = kind.word().as_bytes();
     pump_pieces(err, &[b"leafd: line ", number, b": ", word, b"\n"])
+}
+
+/// Writes which file is no journal, and where.
+fn tell_place<E: Sink>(err: &mut E, name: &[u8], place: u64) -> Result<(), EdgeError>
+    ensures { Pumps (E.taken err.old) (E.taken err.new) result (codes "leafd: bad journal " ++ (name.now ++ (codes " at " ++ (decimal place ++ codes "\n")))) }
+{
+    let mut digits = Buffer::new();
+    let number = digits.format(place).as_bytes();
+    pump_pieces(err, &[b"leafd: bad journal ", name, b" at ", number, b"\n"])
+}
+
+/// Writes which file is too long.
+fn tell_file<E: Sink>(err: &mut E, name: &[u8]) -> Result<(), EdgeError>
+    ensures { Pumps (E.taken err.old) (E.taken err.new) result (codes "leafd: journal too long " ++ (name.now ++ codes "\n")) }
+{
+    pump_pieces(err, &[b"leafd: journal too long ", name, b"\n"])
 }
 
 fn pump_pieces<E: Sink>(err: &mut E, pieces: &[&[u8]]) -> Result<(), EdgeError>

@@ -1,61 +1,99 @@
-ghost use Rattle.std.specs.Prelude.{◌≡◌, ◌↔◌, ◌≤◌, Some, false, length, map};
+ghost use Rattle.std.specs.Prelude.{◌≡◌, ◌↔◌, ◌≤◌, List as Items, ℕ, Some, None, false, length, map, is_some, MatchOption, IsTrue};
+ghost use Rattle.std.specs.Io.KnownBytes.{Keeps};
 ghost use Rattle.std.specs.String.{string_bytes};
+ghost use Rattle.std.specs.Option.{option_map};
 ghost use Rattle.leafd_cli.specs.declared.status.Status.TheVariants.{Usage};
 ghost use Rattle.leafd_cli.specs.Turns.{RanTo};
-ghost use Rattle.leafd_cli.specs.Outcome.{Drills, Tells, CountsRead, CountsWrite, are_command};
+ghost use Rattle.leafd_cli.specs.Folders.{contents, KeepsFiles};
+ghost use Rattle.leafd_cli.specs.Inspecting.{Inspects};
+ghost use Rattle.leafd_cli.specs.Outcome.{Drills, Tells, CountsRead, CountsWrite, CountsDisks, ByWords, are_command, is_drill, folder};
 
 use crate::Status;
 use crate::drill::run_script;
 use crate::input::{LONGEST, read_all};
+use crate::inspect::inspect;
 use crate::tell::tell;
-use leaf_edges::{EdgeError, Sink, Source};
+use leaf_edges::{Clock, EdgeError, Files, Sink, Source};
 use std::alloc::Global;
 
 /// Does the command that the words name: `drill` reads a script from `input` and writes its report
-/// to `out`. Every status but `Done` writes its line to `err`, where a fault is passed over.
-pub fn leafd_run<I: Source, O: Sink, E: Sink>(
+/// to `out`; `inspect` with a folder writes to `out` what the store in this folder of `files` holds.
+/// Every status but `Done` writes its line to `err`, where a fault is passed over. No command asks the
+/// clock yet.
+pub fn leafd_run<I: Source, O: Sink, E: Sink, F: Files, K: Clock>(
     alloc: Global,
     words: &[String],
     input: &mut I,
     out: &mut O,
     err: &mut E,
+    files: &mut F,
+    clock: &mut K,
 ) -> Status
-    // What was written is the report of a right book for the lines that were read.
-    ensures report { Drills (I.left input.old) (I.left input.new) (O.taken out.old) (O.taken out.new) result }
+    requires in_place { F.tells → (name : Items ℕ) → F.is_out files.old name ≡ false }
+
+    // What a drill has written is the report of a right book for the lines that were read; what an
+    // inspection has written are the streams of the logs for which the disks stand.
+    ensures report { ByWords (map string_bytes words.now)
+        (Drills (I.left input.old) (I.left input.new) (O.taken out.old) (O.taken out.new) result)
+        (λ dir. Inspects F.tells (contents F.place F.D.seen files.old) dir (O.taken out.old) (O.taken out.new) result)
+        (Keeps (O.taken out.old) (O.taken out.new)) }
 
     // When each fault comes: only where its count rose, and then it isn't passed over.
     ensures usage { (result ≡ Usage) ↔ (are_command (map string_bytes words.now) ≡ false) }
-    ensures read { CountsRead (I.faults input.old) (I.faults input.new) result }
+    ensures read { ByWords (map string_bytes words.now)
+        (CountsRead (I.faults input.old) (I.faults input.new) result)
+        (λ dir. CountsRead (F.faults files.old) (F.faults files.new) result)
+        (I.faults input.new ≡ I.faults input.old) }
     ensures write { CountsWrite (O.faults out.old) (O.faults out.new) result }
+    ensures disk { CountsDisks (F.disk_faults files.old) (F.disk_faults files.new) result }
+
+    // What a command doesn't use stays, and what is used of the files is put back.
+    ensures unused { ByWords (map string_bytes words.now) (files.new ≡ files.old) (λ _. input.new ≡ input.old) ((files.new ≡ files.old) × (input.new ≡ input.old)) }
+    ensures kept { F.tells → KeepsFiles F.place F.is_out F.D.seen files.old files.new }
+    ensures clock { clock.new ≡ clock.old }
 
     // What was told of it.
     ensures told { Tells (E.taken err.old) (E.taken err.new) result }
 {
-    let status = command(alloc, words, input, out);
-    tell(err, status);
+    let _ = clock;
+    let status = command(alloc, words, input, out, files);
+    tell(err, &status);
     status
 }
 
-fn command<I: Source, O: Sink>(
+fn command<I: Source, O: Sink, F: Files>(
     alloc: Global,
     words: &[String],
     input: &mut I,
     out: &mut O,
+    files: &mut F,
 ) -> Status
-    ensures report { Drills (I.left input.old) (I.left input.new) (O.taken out.old) (O.taken out.new) result }
+    requires in_place { F.tells → (name : Items ℕ) → F.is_out files.old name ≡ false }
+    ensures report { ByWords (map string_bytes words.now)
+        (Drills (I.left input.old) (I.left input.new) (O.taken out.old) (O.taken out.new) result)
+        (λ dir. Inspects F.tells (contents F.place F.D.seen files.old) dir (O.taken out.old) (O.taken out.new) result)
+        (Keeps (O.taken out.old) (O.taken out.new)) }
     ensures usage { (result ≡ Usage) ↔ (are_command (map string_bytes words.now) ≡ false) }
-    ensures read { CountsRead (I.faults input.old) (I.faults input.new) result }
+    ensures read { ByWords (map string_bytes words.now)
+        (CountsRead (I.faults input.old) (I.faults input.new) result)
+        (λ dir. CountsRead (F.faults files.old) (F.faults files.new) result)
+        (I.faults input.new ≡ I.faults input.old) }
     ensures write { CountsWrite (O.faults out.old) (O.faults out.new) result }
+    ensures disk { CountsDisks (F.disk_faults files.old) (F.disk_faults files.new) result }
+    ensures unused { ByWords (map string_bytes words.now) (files.new ≡ files.old) (λ _. input.new ≡ input.old) ((files.new ≡ files.old) × (input.new ≡ input.old)) }
+    ensures kept { F.tells → KeepsFiles F.place F.is_out F.D.seen files.old files.new }
 {
-    if is_command(words) {
-        drill(alloc, input, out)
-    } else {
-        Status::Usage
+    if is_drill(words) {
+        return drill(alloc, input, out);
+    }
+    match folder(words) {
+        Some(dir) => inspect(alloc, dir, files, out),
+        None => Status::Usage,
     }
 }
 
-fn is_command(words: &[String]) -> bool
-    ensures { result ≡ are_command (map string_bytes words.now) }
+fn is_drill(words: &[String]) -> bool
+    ensures { result ≡ is_drill (map string_bytes words.now) }
 {
     if let [word] = words {
         return word.as_bytes() == b"drill".as_slice();
@@ -63,11 +101,24 @@ fn is_command(words: &[String]) -> bool
     false
 }
 
+/// The folder behind the word `inspect`.
+fn folder(words: &[String]) -> Option<&[u8]>
+    ensures { option_map (λ dir. dir.now) result ≡ folder (map string_bytes words.now) }
+{
+    if let [word, dir] = words {
+        if word.as_bytes() == b"inspect".as_slice() {
+            return Some(dir.as_bytes());
+        }
+    }
+    None
+}
+
 fn drill<I: Source, O: Sink>(alloc: Global, input: &mut I, out: &mut O) -> Status
     ensures report { Drills (I.left input.old) (I.left input.new) (O.taken out.old) (O.taken out.new) result }
     ensures usage { result ≡ Usage → ⊥ }
     ensures read { CountsRead (I.faults input.old) (I.faults input.new) result }
     ensures write { CountsWrite (O.faults out.old) (O.faults out.new) result }
+    ensures disk { (before : ℕ) → CountsDisks before before result }
 {
     let text = match read_all(alloc, input) {
         Ok(text) => text,
@@ -84,6 +135,7 @@ fn drill<I: Source, O: Sink>(alloc: Global, input: &mut I, out: &mut O) -> Statu
 fn run_text<O: Sink>(alloc: Global, text: &[u8], out: &mut O) -> Status
     requires { length text.now ≤ 16777216 }
     ensures ran { RanTo text.now (O.taken out.old) (O.taken out.new) result }
+    ensures disk { (before : ℕ) → CountsDisks before before result }
     ensures write { CountsWrite (O.faults out.old) (O.faults out.new) result }
 {
     match run_script(alloc, text, out) {

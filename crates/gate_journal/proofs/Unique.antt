@@ -5,7 +5,9 @@ use Rattle.std.specs.Int.{w32, w64, to_le_bytes, from_le_bytes}
 use Rattle.std.proofs.lemmas.Nat.{from_le_bytes-to_le_bytes_4, from_le_bytes-to_le_bytes_8}
 use Rattle.std.proofs.lemmas.List.{take_at, drop_at}
 use Rattle.std.proofs.lemmas.Bool.Decides.{nat_tests}
-use Rattle.gate_journal.specs.Areas.{head, magic, block, blocks, end_of, IsBody, IsArea, IsUnreadable, IsHeadless, BreaksAt, IsBroken}
+use Rattle.gate_journal.specs.declared.area.Ending.{Ending}
+use Rattle.gate_journal.specs.declared.area.Ending.TheVariants.{Closed, Missing, Unreadable}
+use Rattle.gate_journal.specs.Areas.{head, magic, block, blocks, end_of, IsBody, IsArea, IsUnreadable, IsHeadless, BreaksAt, IsBroken, EndsIn, AreaState, Holds}
 
 -- the parts of a head and what follows it
 pub record SameHead (a b g k : ℕ) (r s : List ℕ) : Type 0 where
@@ -115,3 +117,47 @@ whole c k g p bs a =
     ⊎_elim
     (λ none. headed a.area_gate g (blocks bs ++ a.gate ∷ a.rest) c (area_is k g bs c a) (area_long k g bs c a) none.1)
     (whole_breaks k g p bs c a)
+
+ends_stop : (e : Ending) (r : List ℕ) → EndsIn e r → Stops r
+ends_stop Closed r h = subst Stops (sym h.2) (closed_stops h.0 h.1 h.3)
+ends_stop Missing r h = subst Stops (sym h) (unreadable_stops [] tt)
+ends_stop Unreadable r h = subst Stops (sym h.1) (unreadable_stops (1 ∷ h.0) (refl, h.2))
+
+gate_is : (a b : ℕ) (c d r : List ℕ) → r ≡ a ∷ c → r ≡ b ∷ d → a ≡ b
+gate_is a b c d r e f = ap (λ (l : List ℕ). get_or l 0 0) (sym e ∙ f)
+
+one_ending : (e f : Ending) (r : List ℕ) → EndsIn e r → EndsIn f r → e ≡ f
+one_ending Closed Closed r h k = refl
+one_ending Closed Missing r h k = absurd (omega (arith, ap length (sym h.2 ∙ k)))
+one_ending Closed Unreadable r h k = absurd (h.3 (gate_is h.0 1 h.1 k.0 r h.2 k.1))
+one_ending Missing Closed r h k = absurd (omega (arith, ap length (sym k.2 ∙ h)))
+one_ending Missing Missing r h k = refl
+one_ending Missing Unreadable r h k = absurd (omega (arith, ap length (sym k.1 ∙ h)))
+one_ending Unreadable Closed r h k = absurd (k.3 (gate_is k.0 1 k.1 h.0 r k.2 h.1))
+one_ending Unreadable Missing r h k = absurd (omega (arith, ap length (sym h.1 ∙ k)))
+one_ending Unreadable Unreadable r h k = refl
+
+holds_is : (x : AreaState) (c : List ℕ) (h : Holds x c) → c ≡ head h.area_gate x.generation ++ (blocks x.bodies ++ h.rest)
+holds_is x c h = h.is ∙ append_assoc (head h.area_gate x.generation) (blocks x.bodies) h.rest
+
+abbrev state_of : Bool → ℕ → List (List ℕ) → Ending → AreaState
+state_of counts generation bodies ending = record { counts = counts; generation = generation; bodies = bodies; ending = ending }
+
+same_state : (x y : AreaState) → x.counts ≡ y.counts → x.generation ≡ y.generation → x.bodies ≡ y.bodies → x.ending ≡ y.ending → x ≡ y
+same_state x y a b c d = ap (λ (k : Bool). state_of k x.generation x.bodies x.ending) a ∙ ap (λ (n : ℕ). state_of y.counts n x.bodies x.ending) b ∙ ap (λ (bs : List (List ℕ)). state_of y.counts y.generation bs x.ending) c ∙ ap (state_of y.counts y.generation y.bodies) d
+
+held_parts : (k : Bool) (x y : AreaState) (c : List ℕ) (h : Holds x c) (j : Holds y c) → x.counts ≡ k → y.counts ≡ k → blocks x.bodies ++ h.rest ≡ blocks y.bodies ++ j.rest → (x.bodies ≡ y.bodies) × (x.ending ≡ y.ending)
+held_parts true x y c h j a b e =
+    let walk = same_walk x.bodies y.bodies h.rest j.rest h.legal j.legal (ends_stop x.ending h.rest (h.ends a)) (ends_stop y.ending j.rest (j.ends b)) e in
+    (walk.bodies, one_ending x.ending y.ending h.rest (h.ends a) (subst (EndsIn y.ending) (sym walk.rests) (j.ends b)))
+held_parts false x y c h j a b e = ((h.unread a).0 ∙ sym (j.unread b).0, (h.unread a).1 ∙ sym (j.unread b).1)
+
+pub one_held : (c : List ℕ) (x y : AreaState) → Holds x c → Holds y c → x ≡ y
+one_held c x y h j =
+    let same = same_head h.area_gate j.area_gate x.generation y.generation (blocks x.bodies ++ h.rest) (blocks y.bodies ++ j.rest) h.stamp j.stamp (sym (holds_is x c h) ∙ holds_is y c j) in
+    let counts : x.counts ≡ y.counts = sym h.counted ∙ ap (λ (n : ℕ). n == 1) same.gates ∙ j.counted in
+    let parts = held_parts y.counts x y c h j counts refl same.rests in
+    same_state x y counts same.stamps parts.0 parts.1
+
+pub held_headed : (c : List ℕ) (x : AreaState) → Holds x c → IsHeadless c → ⊥
+held_headed c x h = headed h.area_gate x.generation (blocks x.bodies ++ h.rest) c (holds_is x c h) h.long

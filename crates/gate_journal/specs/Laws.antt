@@ -1,6 +1,6 @@
 -- What holds of areas, whatever the code does.
 use Rattle.std.specs.Prelude.{◌≡◌, ℕ, Bool, List}
-use Rattle.gate_journal.specs.Areas.{IsArea, IsBroken}
+use Rattle.gate_journal.specs.Areas.{AreaState, IsArea, IsBroken, IsHeadless, Holds}
 
 -- bytes are an area in one way only
 abbrev pub AreasAreRead : Type 0
@@ -13,3 +13,11 @@ BreaksAreRead = (c : List ℕ) (p p' : ℕ) → IsBroken p c → IsBroken p' c �
 -- no area breaks
 abbrev pub AreasAreWhole : Type 0
 AreasAreWhole = (c : List ℕ) (k : Bool) (g p : ℕ) (bs : List (List ℕ)) → IsArea k g bs c → IsBroken p c → ⊥
+
+-- bytes hold one area, whole or broken
+abbrev pub AreasAreHeld : Type 0
+AreasAreHeld = (c : List ℕ) (x y : AreaState) → Holds x c → Holds y c → x ≡ y
+
+-- bytes without a head hold none
+abbrev pub HeadsAreHeld : Type 0
+HeadsAreHeld = (c : List ℕ) (x : AreaState) → Holds x c → IsHeadless c → ⊥

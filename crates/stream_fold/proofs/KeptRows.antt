@@ -1,6 +1,6 @@
 -- What holds of the messages that are kept, and that a hole stays a hole.
 use Rattle.std.proofs.Common.{◌≡◌, ◌≢◌, ℕ, zero, suc, ◌<◌, ◌≤◌, max, Bool, true, false, cond, ◌&&◌, eqb, leb, List, [], ◌∷◌, ◌++◌, Option, Some, None, refl, sym, ◌∙◌, subst, arith, append_assoc}
-use Rattle.std.specs.Prelude.{⊤, filter, count_by, sum_by, length, map}
+use Rattle.std.specs.Prelude.{⊤, filter, count_by, sum_by, length}
 use Rattle.std.proofs.lemmas.Bool.{eqb-false, eq-eqb, ne_eqb}
 use Rattle.nats_text.specs.Sizes.{size}
 use Rattle.nats_text.specs.declared.message.Message.{Message}
@@ -8,17 +8,11 @@ use Rattle.stream_fold.specs.declared.config.Config.{Config}
 use Rattle.stream_fold.specs.declared.entry.Entry.{Entry}
 use Rattle.stream_fold.specs.declared.entry.Entry.TheVariants.{Put, Del, Purge, Expire, Bind, Limits}
 use Rattle.stream_fold.specs.declared.entry.Numbered.{Numbered}
+use Rattle.stream_fold.specs.Held.{Held, held_after}
 use Rattle.stream_fold.specs.Histories.{History, put, number_of, last, Standing, standing, after, kept, message_at, IsHole, IsAbove, RiseFrom, NumbersRise, newest_of_each, newest_within, is_within, has_subject_of, trimmed, limits_after, changed_rows}
+pub use Rattle.stream_fold.specs.RowLists.{EachRow, seqs, Rises}
 use Rattle.stream_fold.proofs.Folds.{last-append, last-push, standing-append}
 use Rattle.stream_fold.proofs.Growth.{put-append, put-none_below, put-below, RiseFrom-append}
-
--- what holds of each row
-abbrev pub EachRow : (Numbered → Type 0) → List Numbered → Type 0
-EachRow P [] = ⊤
-EachRow P (row ∷ rows) = P row × EachRow P rows
-
-abbrev pub seqs : List Numbered → List ℕ
-seqs rows = map (λ row. row.seq) rows
 
 cond-each : (P : Numbered → Type 0) (b : Bool) (xs ys : List Numbered) → EachRow P xs → EachRow P ys → EachRow P (cond b xs ys)
 cond-each P true xs ys h k = h
@@ -72,11 +66,6 @@ pub EachRow-standing : (P : Numbered → Type 0) (es : List Entry) (k : Standing
 EachRow-standing P [] k h p = h
 EachRow-standing P (e ∷ es) k h p = EachRow-standing P es (after k e) (EachRow-after P k e h p.0) p.1
 
--- the numbers rise strictly, and none is below the bound
-abbrev pub Rises : ℕ → List ℕ → Type 0
-Rises low [] = ⊤
-Rises low (x ∷ xs) = (low ≤ x) × Rises (suc x) xs
-
 -- the rows rise
 Rises-weaker : (low low' : ℕ) (xs : List ℕ) → low' ≤ low → Rises low xs → Rises low' xs
 Rises-weaker low low' [] le h = tt
@@ -120,6 +109,16 @@ PutsOk-below low (Purge pattern below) = tt
 PutsOk-below low (Expire now) = tt
 PutsOk-below low (Bind index incarnation start) = tt
 PutsOk-below low (Limits config) = tt
+
+-- what is held after an entry rises to the last number
+pub Rises-held_after : (held : Held) (e : Entry) → IsAbove held.last e → EachRow (λ r. r.seq ≤ held.last) held.rows → Rises 0 (seqs held.rows) → Rises 0 (seqs (held_after held e).rows)
+Rises-held_after held e n each h = Rises-trimmed (limits_after held.limits e) 0 (changed_rows held.limits e held.rows) (Rises-changed held.limits held.last e held.rows each n h)
+
+pub below-held_after : (held : Held) (e : Entry) → EachRow (λ r. r.seq ≤ held.last) held.rows → EachRow (λ r. r.seq ≤ (held_after held e).last) (held_after held e).rows
+below-held_after held e each =
+    EachRow-after (λ r. r.seq ≤ max held.last (number_of e)) (record { limits = held.limits; rows = held.rows }) e
+    (EachRow-weaker (λ r. r.seq ≤ held.last) (λ r. r.seq ≤ max held.last (number_of e)) (λ r q. omega arith) held.rows each)
+    (PutsOk-below held.last e)
 
 Rises-standing : (es : List Entry) (k : Standing) (low : ℕ) → EachRow (λ r. r.seq ≤ low) k.rows → RiseFrom low es → Rises 0 (seqs k.rows) → Rises 0 (seqs (standing k es).rows)
 Rises-standing [] k low each n h = h

@@ -1,3 +1,4 @@
+mod Finding
 mod Fitting
 pub mod Folds
 mod Full
@@ -6,5 +7,6 @@ pub mod KeptRows
 mod Marking
 mod Newest
 mod Sending
+mod Settling
 mod Totals
 mod Trims

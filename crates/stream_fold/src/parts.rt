@@ -2,10 +2,9 @@ ghost use Rattle.std.specs.Prelude.{◌≡◌, ◌<◌, ◌≤◌, length, ◌+�
 ghost use Rattle.std.specs.Vec.{vec_capacity};
 ghost use Rattle.std.specs.Str.{bytes_eq};
 ghost use Rattle.nats_text.specs.Sizes.{size};
-ghost use Rattle.stream_fold.specs.declared.entry.Entry.TheVariants.{Put};
 ghost use Rattle.stream_fold.specs.Histories.{size_of};
-ghost use Rattle.stream_fold.specs.Held.{changed, id_of, sent_id, size_put, with_mark, with_sent, still_open};
-ghost use Rattle.stream_fold.specs.Parts.{held_in, room_in};
+ghost use Rattle.stream_fold.specs.Held.{id_of, sent_id, size_put, with_mark, with_sent, still_open};
+ghost use Rattle.stream_fold.specs.Parts.{held_in, room_in, changed_newest, with_message, IsSettled};
 
 use crate::rows::Rows;
 use crate::trim::{drop_front, is_older};
@@ -43,12 +42,14 @@ pub struct Parts {
     pub spare: Option<Bytes>,
 }
 
-/// Does what the entry says, before the limits.
+/// Does what the entry says, and keeps the limit of each subject. The rows were within it before: so
+/// only a new row can be one too many of its subject, and only another limit needs a look at all rows.
 pub fn change(parts: &mut Parts, entry: Entry)
+    requires settled { IsSettled (held_in parts.old) }
     requires room { 0 < room_in parts.old }
     requires spare { parts.old.spare ≡ id_of entry }
     requires sizes { size_of parts.old.rows.rows + size_put entry < 2 ^ 64 }
-    ensures { held_in parts.new ≡ changed (held_in parts.old) entry }
+    ensures { held_in parts.new ≡ changed_newest (held_in parts.old) entry }
 {
     match entry {
         Entry::Put { seq, message, mark } => put(parts, seq, message, mark),
@@ -66,7 +67,10 @@ pub fn change(parts: &mut Parts, entry: Entry)
             index,
             to: BoundTo { incarnation, start },
         }),
-        Entry::Limits { config } => parts.config = config,
+        Entry::Limits { config } => {
+            parts.config = config;
+            parts.rows.keep_newest(parts.config.max_per_subject);
+        }
     }
 }
 
@@ -74,7 +78,7 @@ fn put(parts: &mut Parts, seq: u64, message: Message, mark: Option<Mark>)
     requires room { 0 < room_in parts.old }
     requires spare { parts.old.spare ≡ sent_id message mark }
     requires sizes { size_of parts.old.rows.rows + size message < 2 ^ 64 }
-    ensures { held_in parts.new ≡ changed (held_in parts.old) (Put seq message mark) }
+    ensures { held_in parts.new ≡ with_message (held_in parts.old) (record { seq = seq; message = message }) mark }
 {
     let time = message.time;
     parts.last = parts.last.max(seq);
@@ -86,7 +90,8 @@ fn put(parts: &mut Parts, seq: u64, message: Message, mark: Option<Mark>)
         set_sent(&mut parts.sent, Sent { id, seq, time });
         drop_closed(&mut parts.sent, parts.window, parts.clock);
     }
-    parts.rows.push(Numbered { seq, message });
+    let row = Numbered { seq, message };
+    parts.rows.push_newest(row, parts.config.max_per_subject);
 }
 
 fn set_mark(marks: &mut Vec<Mark>, mark: Mark)

@@ -1,10 +1,14 @@
-ghost use Rattle.std.specs.Prelude.{◌≡◌, ◌<◌, ◌+◌, ◌^◌, ◌++◌, ◌∷◌, [], ◌==◌, not, filter, OnOk};
+ghost use Rattle.std.specs.Prelude.{◌≡◌, ◌<◌, ◌≤◌, ◌+◌, ◌^◌, ◌++◌, ◌∷◌, [], ◌==◌, not, filter, OnOk};
+ghost use Rattle.std.specs.Option.{option_copied};
 ghost use Rattle.nats_text.specs.Sizes.{size};
-ghost use Rattle.stream_fold.specs.Histories.{is_purged, is_expired, trimmed, size_of};
+ghost use Rattle.stream_fold.specs.Histories.{is_purged, is_expired, message_at, newest_of_subjects, newest_within, size_of};
+ghost use Rattle.stream_fold.specs.RowLists.{with_place, from_number, seqs, Rises};
 
-use crate::trim::{drop_front, excess_of, is_older, keep_newest_of_each, total_of};
+use crate::trim::{
+    count_of_subject, drop_front, excess_of, is_older, keep_newest_of_each, remove_first, total_of,
+};
 use crate::{Config, Numbered};
-use nats_text::{NoMemory, Pattern, matches};
+use nats_text::{Message, NoMemory, Pattern, matches};
 use std::alloc::Global;
 use std::marker::Model;
 
@@ -68,6 +72,27 @@ impl Rows {
         self.items.push_reserved(row);
     }
 
+    /// Adds a row at the end, where the first one of its subject goes if so many stand. A limit of 0
+    /// is none.
+    pub fn push_newest(&mut self, row: Numbered, most: u64)
+        requires room { 0 < self.old.room }
+        requires total { size_of self.old.rows + size row.message < 2 ^ 64 }
+        ensures { self.new.rows ≡ with_place most row.message.subject self.old.rows ++ row ∷ [] }
+    {
+        self.make_place(row.message.subject.bytes(), most);
+        self.push(row);
+    }
+
+    fn make_place(&mut self, subject: &[u8], most: u64)
+        ensures rows { self.new.rows ≡ with_place most subject.now self.old.rows }
+        ensures total { size_of self.new.rows ≤ size_of self.old.rows }
+        ensures room { self.old.room ≤ self.new.room }
+    {
+        if most != 0 && most <= count_of_subject(subject, &self.items) as u64 {
+            remove_first(&mut self.items, &mut self.total, subject);
+        }
+    }
+
     pub fn delete(&mut self, seq: u64)
         ensures { self.new.rows ≡ filter (λ row. not (row.seq == seq)) self.old.rows }
     {
@@ -89,17 +114,45 @@ impl Rows {
         self.total = total_of(&self.items);
     }
 
-    /// Takes away what the limits don't allow: first the older messages of each subject, then the
-    /// oldest of all.
-    pub fn trim(&mut self, config: &Config)
-        ensures { self.new.rows ≡ trimmed config.now self.old.rows }
+    /// Takes away the older messages of each subject that has more than so many. A limit of 0 is none.
+    pub fn keep_newest(&mut self, most: u64)
+        ensures { self.new.rows ≡ newest_of_subjects most self.old.rows }
     {
-        if config.max_per_subject != 0 {
-            keep_newest_of_each(&mut self.items, config.max_per_subject);
+        if most != 0 {
+            keep_newest_of_each(&mut self.items, most);
             self.total = total_of(&self.items);
         }
+    }
+
+    /// Takes away the oldest that the limits on count and bytes don't allow.
+    pub fn drop_excess(&mut self, config: &Config)
+        ensures { self.new.rows ≡ newest_within config.now self.old.rows }
+    {
         let excess = excess_of(&self.items, &mut self.total, config);
         drop_front(&mut self.items, excess);
+    }
+}
+
+/// The rows from a number on.
+pub fn rows_from(rows: &[Numbered], seq: u64) -> &[Numbered]
+    requires { Rises 0 (seqs rows.now) }
+    ensures rows { result.now ≡ from_number seq rows.now }
+    ensures rises { Rises seq (seqs result.now) }
+{
+    let place = rows.partition_point(|row| row.seq < seq);
+    &rows[place..]
+}
+
+/// The message of a number, where no lower one is there.
+pub fn message_of(rows: &[Numbered], seq: u64) -> Option<&Message>
+    requires { Rises seq (seqs rows.now) }
+    ensures { option_copied result ≡ message_at seq rows.now }
+{
+    let row = rows.first()?;
+    if row.seq == seq {
+        Some(&row.message)
+    } else {
+        None
     }
 }
 

@@ -5,10 +5,11 @@ ghost use Rattle.stream_fold.specs.Histories.{History, with_entry, message_at, s
 ghost use Rattle.stream_fold.specs.Copying.{binding_at, mark, mark_in, origin_at, start_of};
 ghost use Rattle.stream_fold.specs.Publishing.{GivesVerdict, verdict, last_of, next_match};
 ghost use Rattle.stream_fold.specs.Held.{StandsFor, Fits, HasRoom, KeepsMembers, held_after, first_of, index_count, id_of, sent_id, size_put};
+ghost use Rattle.stream_fold.specs.RowLists.{from_number, seqs, Rises};
 
 use crate::parts::{Parts, change};
 use crate::publish::{last_of, next_match, verdict};
-use crate::rows::Rows;
+use crate::rows::{Rows, message_of, rows_from};
 use crate::same::same_copies;
 use crate::{BoundTo, Config, Copies, Entry, Mark, Numbered, Refusal, Verdict};
 use nats_text::{Bytes, List, Message, NoMemory, Origin, Pattern, Start, Subject};
@@ -107,12 +108,7 @@ impl StreamState {
     pub fn kept(&self, seq: u64) -> Option<&Message>
         ensures { option_copied result ≡ message_at seq self.now.held.rows }
     {
-        for row in self.rows() {
-            if row.seq == seq {
-                return Some(&row.message);
-            }
-        }
-        None
+        message_of(self.rows_from(seq), seq)
     }
 
     /// The messages that are kept, oldest first.
@@ -120,6 +116,14 @@ impl StreamState {
         ensures { result.now ≡ self.now.held.rows }
     {
         self.parts.rows.as_slice()
+    }
+
+    /// The messages that are kept from a number on, oldest first.
+    fn rows_from(&self, seq: u64) -> &[Numbered]
+        ensures rows { result.now ≡ from_number seq self.now.held.rows }
+        ensures rises { Rises seq (seqs result.now) }
+    {
+        rows_from(self.parts.rows.as_slice(), seq)
     }
 
     /// What an index of the copies is bound to.
@@ -166,7 +170,7 @@ impl StreamState {
     pub fn next_match(&self, from: u64, filters: &List<Pattern>) -> Option<u64>
         ensures { result ≡ next_match from filters.now self.now.held.rows }
     {
-        next_match(from, filters.as_slice(), self.rows())
+        next_match(from, filters.as_slice(), self.rows_from(from))
     }
 
     /// Whether an entry may come next: a Put has a number above the last and below `2^63`, and so has
@@ -215,7 +219,7 @@ impl StreamState {
         ensures history { (history : History) → StandsFor self.old history → StandsFor self.new (with_entry history entry) }
     {
         change(&mut self.parts, entry);
-        self.parts.rows.trim(&self.parts.config);
+        self.parts.rows.drop_excess(&self.parts.config);
     }
 }
 

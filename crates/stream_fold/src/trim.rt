@@ -1,7 +1,8 @@
-ghost use Rattle.std.specs.Prelude.{◌≡◌, ◌≤◌, ◌<◌, ◌+◌, ◌^◌, nat_le, length, count_by, drop, vec_len};
+ghost use Rattle.std.specs.Prelude.{◌≡◌, ◌≤◌, ◌<◌, ◌+◌, ◌^◌, ◌++◌, take, nat_le, length, count_by, drop, vec_len};
+ghost use Rattle.std.specs.Vec.{vec_capacity};
 ghost use Rattle.std.specs.Str.{bytes_eq};
 ghost use Rattle.stream_fold.specs.Histories.{newest_of_each, newest_within, has_subject_of, size_of};
-ghost use Rattle.stream_fold.specs.RowLists.{counts_within};
+ghost use Rattle.stream_fold.specs.RowLists.{counts_within, without_first};
 
 use crate::{Config, Numbered};
 
@@ -31,6 +32,39 @@ pub fn count_of_subject(subject: &[u8], rows: &[Numbered]) -> usize
     rows.iter()
         .filter(|row| row.message.subject.bytes() == subject)
         .count()
+}
+
+/// Takes away the first message of the subject, and its size from `total`, the sum of the sizes.
+pub fn remove_first(rows: &mut Vec<Numbered>, total: &mut u64, subject: &[u8])
+    requires { total.old ≡ size_of rows.old.items }
+    ensures rows { rows.new.items ≡ without_first subject.now rows.old.items }
+    ensures total { total.new ≡ size_of rows.new.items }
+    ensures shorter { vec_len rows.new ≤ vec_len rows.old }
+    ensures capacity { vec_capacity rows.new ≡ vec_capacity rows.old }
+{
+    let place = first_place(subject, rows);
+    if place < rows.len() {
+        *total -= rows[place].message.size() as u64;
+        rows.remove(place);
+    }
+}
+
+/// The place of the first message of the subject, or one past the last.
+fn first_place(subject: &[u8], rows: &[Numbered]) -> usize
+    ensures within { result ≤ length rows.now }
+    ensures first { take result rows.now ++ drop (result + 1) rows.now ≡ without_first subject.now rows.now }
+{
+    let mut place = 0;
+    while place < rows.len() && !has_subject(&rows[place], subject) {
+        place += 1;
+    }
+    place
+}
+
+fn has_subject(row: &Numbered, subject: &[u8]) -> bool
+    ensures { result ≡ bytes_eq row.now.message.subject subject.now }
+{
+    row.message.subject.bytes() == subject
 }
 
 /// How many of the oldest messages have to go. `total` is the sum of the sizes, and then that of the
@@ -70,11 +104,18 @@ pub fn total_of(rows: &[Numbered]) -> u64
     total
 }
 
-/// Takes away the first items.
+/// Takes away the first items. None and one, which are frequent, cost less than more do.
 pub fn drop_front<T: Drop>(items: &mut Vec<T>, count: usize)
     requires { count ≤ vec_len items.old }
     ensures { items.new.items ≡ drop count items.old.items }
 {
+    if count == 0 {
+        return;
+    }
+    if count == 1 {
+        items.remove(0);
+        return;
+    }
     items.rotate_left(count);
     let rest = items.len() - count;
     items.truncate(rest);

@@ -1,5 +1,5 @@
 -- When a call to the outside may fail, and what a failure leaves behind.
-use Rattle.std.specs.Prelude.{◌≡◌, ℕ, ◌+◌, ◌-◌, ◌^◌, ◌≤◌, min, List, ◌++◌, length, Option, Result, Ok, Err, Bool, ◌&&◌, ◌==◌, nat_lt, MatchBool}
+use Rattle.std.specs.Prelude.{◌≡◌, ℕ, ◌+◌, ◌-◌, ◌^◌, ◌≤◌, min, max, List, ◌++◌, length, Option, Result, Ok, Err, Bool, ◌&&◌, ◌==◌, nat_lt, MatchBool}
 use Rattle.std.specs.Io.KnownBytes.{Appends}
 use Rattle.leaf_edges.specs.declared.fault.EdgeError.{EdgeError}
 use Rattle.leaf_edges.specs.declared.fault.EdgeError.TheVariants.{Failed, NoMemory}
@@ -13,6 +13,16 @@ abbrev pub Causes : {T : Type 0} → ℕ → ℕ → Result T EdgeError → Type
 Causes before now (Ok value) = now ≡ before
 Causes before now (Err Failed) = Rose before now
 Causes before now (Err NoMemory) = now ≡ before
+
+-- a count of faults went up by one, up to its type's end
+abbrev pub RoseByOne : ℕ → ℕ → Type 0
+RoseByOne before now = now ≡ max before (min (before + 1) (2 ^ 64 - 1))
+
+-- `Failed` comes only where the count went up by one, and every other answer leaves the count
+abbrev pub CausesOne : {T : Type 0} → ℕ → ℕ → Result T EdgeError → Type 0
+CausesOne before now (Ok value) = now ≡ before
+CausesOne before now (Err Failed) = RoseByOne before now
+CausesOne before now (Err NoMemory) = now ≡ before
 
 abbrev pub ReadCauses : ℕ → ℕ → Result ℕ EdgeError → Type 0
 ReadCauses before now result = Causes before now result

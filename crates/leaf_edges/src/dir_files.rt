@@ -1,5 +1,6 @@
 ghost use Rattle.std.specs.Prelude.{◌≡◌, ◌≤◌, ◌++◌, [], ℕ, List, length, false, None, OnErr, OnOk, IsErrOf};
 ghost use Rattle.leaf_edges.specs.Causes.{Causes};
+ghost use Rattle.std.proofs.Common.{arith};
 ghost use Rattle.leaf_edges.specs.Files.{AddsText, CountsDisk, max_text};
 
 use crate::{EdgeError, FileDisk, Files};
@@ -200,6 +201,13 @@ impl Files for DirFiles {
     ghost faults = { λ f. f.faults };
 
     ghost disk_faults = { λ f. f.disk_faults };
+
+    // No count falls.
+    ghost leads = { λ old new. (old.faults ≤ new.faults) × (old.disk_faults ≤ new.disk_faults) };
+
+    ghost leads_here = { λ files. (Prim.omega arith, Prim.omega arith) };
+
+    ghost leads_on = { λ one two three here there. (Prim.omega (arith, here.0, there.0), Prim.omega (arith, here.1, there.1)) };
 
     ghost disks_tell = { λ told. absurd told };
 

@@ -1,5 +1,5 @@
 ghost use Rattle.std.specs.Prelude.{◌≡◌, ◌≤◌, ◌+◌, ◌^◌, ℕ, List, Bool, true, false, length, take, drop, IfOk, OnOk, IsErrOf, IsTrue};
-ghost use Rattle.leaf_edges.specs.Causes.{Causes};
+ghost use Rattle.leaf_edges.specs.Causes.{CausesOne};
 ghost use Rattle.leaf_edges.specs.Disks.{Torn, Cut, Follows, Only, Unchanged, Elapses, Notes, NotesSync, overwritten, wrote, cut_to};
 
 use crate::EdgeError;
@@ -39,13 +39,18 @@ pub trait Disk: Drop {
     /// How many of its calls failed, up to `2^64 - 1`.
     ghost faults: { Self → ℕ };
 
+    /// Whether the second state of a disk may come after the first: what a disk of this type keeps from
+    /// call to call.
+    ghost leads: { Self → Self → Type 0 };
+
     /// How many bytes it has.
     fn len(&mut self) -> Result<u64, EdgeError>
         ensures value { tells → IfOk result (λ len. len ≡ length (seen self.old)) }
         ensures same { tells → Unchanged seen images unsynced done failed self.old self.new }
         ensures time { tells → Elapses moment left_since images self.old self.new }
         ensures memory { IsErrOf result EdgeError.NoMemory → ⊥ }
-        ensures cause { Causes (faults self.old) (faults self.new) result };
+        ensures cause { CausesOne (faults self.old) (faults self.new) result }
+        ensures leads { leads self.old self.new };
 
     /// Fills `buf` with the bytes from `place` on. At `Err` the buffer may hold anything.
     fn read(&mut self, place: u64, buf: &mut [u8]) -> Result<(), EdgeError>
@@ -54,7 +59,8 @@ pub trait Disk: Drop {
         ensures same { tells → Unchanged seen images unsynced done failed self.old self.new }
         ensures time { tells → Elapses moment left_since images self.old self.new }
         ensures memory { IsErrOf result EdgeError.NoMemory → ⊥ }
-        ensures cause { Causes (faults self.old) (faults self.new) result };
+        ensures cause { CausesOne (faults self.old) (faults self.new) result }
+        ensures leads { leads self.old self.new };
 
     /// Writes the bytes at `place`, and past the end where they don't fit before it. At `NoMemory`
     /// nothing was written; at `Failed` a crash, and a read too, may find any part of it.
@@ -66,7 +72,8 @@ pub trait Disk: Drop {
         ensures crash { tells → Follows (Torn place (length bytes.now)) (images self.old) (images self.new) }
         ensures memory { tells → IsErrOf result EdgeError.NoMemory → Unchanged seen images unsynced done failed self.old self.new }
         ensures time { tells → Elapses moment left_since images self.old self.new }
-        ensures cause { Causes (faults self.old) (faults self.new) result };
+        ensures cause { CausesOne (faults self.old) (faults self.new) result }
+        ensures leads { leads self.old self.new };
 
     /// Cuts it to the first `len` bytes. At `NoMemory` nothing was cut; at `Failed` a crash, and a
     /// read too, may find it cut or not.
@@ -78,7 +85,8 @@ pub trait Disk: Drop {
         ensures crash { tells → Follows (Cut len) (images self.old) (images self.new) }
         ensures memory { tells → IsErrOf result EdgeError.NoMemory → Unchanged seen images unsynced done failed self.old self.new }
         ensures time { tells → Elapses moment left_since images self.old self.new }
-        ensures cause { Causes (faults self.old) (faults self.new) result };
+        ensures cause { CausesOne (faults self.old) (faults self.new) result }
+        ensures leads { leads self.old self.new };
 
     /// At Ok a crash leaves what a read gives, until the next write or cut. At `Failed` what was
     /// unsynced may be on the disk or not.
@@ -90,7 +98,14 @@ pub trait Disk: Drop {
         ensures crash { tells → (c : List ℕ) → images self.new c → images self.old c }
         ensures time { tells → Elapses moment left_since images self.old self.new }
         ensures memory { IsErrOf result EdgeError.NoMemory → ⊥ }
-        ensures cause { Causes (faults self.old) (faults self.new) result };
+        ensures cause { CausesOne (faults self.old) (faults self.new) result }
+        ensures leads { leads self.old self.new };
+
+    /// No call leads from a state to itself.
+    ghost leads_here: { (disk : Self) → leads disk disk };
+
+    /// Calls after calls lead on.
+    ghost leads_on: { (one two three : Self) → leads one two → leads two three → leads one three };
 
     /// A disk as it reads is one of its images.
     ghost seen_is_image: { (disk : Self) → tells → images disk (seen disk) };

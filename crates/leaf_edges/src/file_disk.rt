@@ -1,5 +1,6 @@
-ghost use Rattle.std.specs.Prelude.{◌≡◌, [], false, None, IsErrOf};
-ghost use Rattle.leaf_edges.specs.Causes.{Causes};
+ghost use Rattle.std.specs.Prelude.{◌≡◌, ◌≤◌, [], false, None, IsErrOf};
+ghost use Rattle.leaf_edges.specs.Causes.{CausesOne};
+ghost use Rattle.std.proofs.Common.{arith};
 
 use crate::{Disk, EdgeError};
 use std::fs::File;
@@ -42,7 +43,7 @@ impl FileDisk {
 
 /// Counts a fault at an error.
 fn counted<T: Drop>(outcome: io::Result<T>, faults: &mut u64) -> Result<T, EdgeError>
-    ensures cause { Causes faults.old faults.new result }
+    ensures cause { CausesOne faults.old faults.new result }
     ensures memory { IsErrOf result EdgeError.NoMemory → ⊥ }
 {
     match outcome {
@@ -72,6 +73,13 @@ impl Disk for FileDisk {
     ghost failed = { λ _. None };
 
     ghost faults = { λ faults. faults };
+
+    // No count falls.
+    ghost leads = { λ old new. old ≤ new };
+
+    ghost leads_here = { λ disk. Prim.omega arith };
+
+    ghost leads_on = { λ one two three here there. Prim.omega (arith, here, there) };
 
     ghost seen_is_image = { λ _ told. absurd told };
 

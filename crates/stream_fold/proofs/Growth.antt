@@ -5,7 +5,7 @@ use Rattle.std.proofs.lemmas.Bool.Decides.{nat_tests}
 use Rattle.nats_text.specs.declared.message.Message.{Message}
 use Rattle.stream_fold.specs.declared.entry.Entry.{Entry}
 use Rattle.stream_fold.specs.declared.entry.Entry.TheVariants.{Put, Del, Purge, Expire, Bind, Limits}
-use Rattle.stream_fold.specs.Histories.{either, put, put_by, number_of, last, IsAbove, RiseFrom, NumbersRise}
+use Rattle.stream_fold.specs.Histories.{either, put, put_by, number_put, last, IsAbove, RiseFrom, NumbersRise}
 
 either_assoc : {A : Type 0} (a b c : Option A) → either a (either b c) ≡ either (either a b) c
 either_assoc (Some x) b c = refl
@@ -19,7 +19,7 @@ pub put-stays : (es xs : List Entry) (s : ℕ) (m : Message) → put s es ≡ So
 put-stays es xs s m e = rw (put-append es xs s, e) refl
 
 -- the only number that an entry puts is its own
-put_by-number : (e : Entry) (s : ℕ) (m : Message) → put_by s e ≡ Some m → number_of e ≡ s
+put_by-number : (e : Entry) (s : ℕ) (m : Message) → put_by s e ≡ Some m → number_put e ≡ s
 put_by-number (Put seq message mark) s m = grind (arith, nat_tests)
 put_by-number (Del seq) s m = λ e. absurd (cc)
 put_by-number (Purge pattern below) s m = λ e. absurd (cc)
@@ -50,20 +50,20 @@ put_by-below (Limits config) low s h le = refl
 -- what comes later puts no number that was reached
 pub put-none_below : (xs : List Entry) (low s : ℕ) → RiseFrom low xs → s ≤ low → put s xs ≡ None
 put-none_below [] low s h le = refl
-put-none_below (e ∷ xs) low s h le = rw (put_by-below e low s h.0 le) (put-none_below xs (max low (number_of e)) s h.1 (omega arith))
+put-none_below (e ∷ xs) low s h le = rw (put_by-below e low s h.0 le) (put-none_below xs (max low (number_put e)) s h.1 (omega arith))
 
 pub RiseFrom-append : (es xs : List Entry) (low : ℕ) → RiseFrom low (es ++ xs) → RiseFrom low es × RiseFrom (max low (last es)) xs
 RiseFrom-append [] xs low h = (tt, subst (λ l. RiseFrom l xs) (let q : low ≡ max low 0 = omega arith in q) h)
 RiseFrom-append (e ∷ es) xs low h =
-    let ih = RiseFrom-append es xs (max low (number_of e)) h.1 in
-    ((h.0, ih.0), subst (λ l. RiseFrom l xs) (let q : max (max low (number_of e)) (last es) ≡ max low (max (number_of e) (last es)) = omega arith in q) ih.1)
+    let ih = RiseFrom-append es xs (max low (number_put e)) h.1 in
+    ((h.0, ih.0), subst (λ l. RiseFrom l xs) (let q : max (max low (number_put e)) (last es) ≡ max low (max (number_put e) (last es)) = omega arith in q) ih.1)
 
 pub RiseFrom-push : (es xs : List Entry) (low : ℕ) → RiseFrom low es → RiseFrom (max low (last es)) xs → RiseFrom low (es ++ xs)
 RiseFrom-push [] xs low h k = subst (λ l. RiseFrom l xs) (let q : max low 0 ≡ low = omega arith in q) k
 RiseFrom-push (e ∷ es) xs low h k = (
   h.0,
-  RiseFrom-push es xs (max low (number_of e)) h.1
-      (subst (λ l. RiseFrom l xs) (let q : max low (max (number_of e) (last es)) ≡ max (max low (number_of e)) (last es) = omega arith in q) k),
+  RiseFrom-push es xs (max low (number_put e)) h.1
+      (subst (λ l. RiseFrom l xs) (let q : max low (max (number_put e) (last es)) ≡ max (max low (number_put e)) (last es) = omega arith in q) k),
 )
 
 -- a number that was reached is put later only if it was put before

@@ -8,8 +8,9 @@ use Rattle.stream_fold.specs.declared.config.Config.{Config}
 use Rattle.stream_fold.specs.declared.entry.Entry.{Entry}
 use Rattle.stream_fold.specs.declared.entry.Entry.TheVariants.{Put, Del, Purge, Expire, Bind, Limits}
 use Rattle.stream_fold.specs.declared.entry.Numbered.{Numbered}
-use Rattle.stream_fold.specs.Held.{Held, held_after}
-use Rattle.stream_fold.specs.Histories.{History, put, number_of, last, Standing, standing, after, kept, message_at, IsHole, IsAbove, RiseFrom, NumbersRise, newest_of_each, newest_within, is_within, has_subject_of, trimmed, limits_after, changed_rows}
+use Rattle.stream_fold.specs.Held.{Held}
+use Rattle.stream_fold.specs.Parts.{held_after}
+use Rattle.stream_fold.specs.Histories.{History, put, number_put, last, Folded, standing, after, kept, message_at, IsHole, IsAbove, RiseFrom, NumbersRise, newest_of_each, newest_within, is_in_limit, has_subject_of, limited, limits_after, changed_rows}
 pub use Rattle.stream_fold.specs.RowLists.{EachRow, seqs, Rises}
 use Rattle.stream_fold.proofs.Folds.{last-append, last-push, standing-append}
 use Rattle.stream_fold.proofs.Growth.{put-append, put-none_below, put-below, RiseFrom-append}
@@ -28,7 +29,7 @@ EachRow-newest_of_each P n (row ∷ rows) h = let ih = EachRow-newest_of_each P 
 
 EachRow-newest_within : (P : Numbered → Type 0) (c : Config) (rows : List Numbered) → EachRow P rows → EachRow P (newest_within c rows)
 EachRow-newest_within P c [] h = tt
-EachRow-newest_within P c (row ∷ rows) h = cond-each P (is_within c.max_msgs (length (row ∷ rows)) && is_within c.max_bytes (sum_by (λ r. size r.message) (row ∷ rows))) (row ∷ rows) (newest_within c rows) h (EachRow-newest_within P c rows h.1)
+EachRow-newest_within P c (row ∷ rows) h = cond-each P (is_in_limit c.max_msgs (length (row ∷ rows)) && is_in_limit c.max_bytes (sum_by (λ r. size r.message) (row ∷ rows))) (row ∷ rows) (newest_within c rows) h (EachRow-newest_within P c rows h.1)
 
 EachRow-append : (P : Numbered → Type 0) (xs ys : List Numbered) → EachRow P xs → EachRow P ys → EachRow P (xs ++ ys)
 EachRow-append P [] ys h k = k
@@ -43,8 +44,8 @@ abbrev PutsOk : (Numbered → Type 0) → Entry → Type 0
 PutsOk P (Put seq message mark) = P (record { seq = seq; message = message })
 PutsOk P _ = ⊤
 
-EachRow-trimmed : (P : Numbered → Type 0) (c : Config) (rows : List Numbered) → EachRow P rows → EachRow P (trimmed c rows)
-EachRow-trimmed P c rows h = EachRow-newest_within P c _ (cond-each P (eqb c.max_per_subject 0) rows (newest_of_each c.max_per_subject rows) h (EachRow-newest_of_each P c.max_per_subject rows h))
+EachRow-limited : (P : Numbered → Type 0) (c : Config) (rows : List Numbered) → EachRow P rows → EachRow P (limited c rows)
+EachRow-limited P c rows h = EachRow-newest_within P c _ (cond-each P (eqb c.max_per_subject 0) rows (newest_of_each c.max_per_subject rows) h (EachRow-newest_of_each P c.max_per_subject rows h))
 
 EachRow-changed : (P : Numbered → Type 0) (c : Config) (e : Entry) (rows : List Numbered) → EachRow P rows → PutsOk P e → EachRow P (changed_rows c e rows)
 EachRow-changed P c (Put seq message mark) rows h p = EachRow-append P rows _ h (p, tt)
@@ -54,15 +55,15 @@ EachRow-changed P c (Expire now) rows h p = EachRow-filter P _ rows h
 EachRow-changed P c (Bind index incarnation start) rows h p = h
 EachRow-changed P c (Limits config) rows h p = h
 
-EachRow-after : (P : Numbered → Type 0) (k : Standing) (e : Entry) → EachRow P k.rows → PutsOk P e → EachRow P (after k e).rows
-EachRow-after P k e h p = EachRow-trimmed P (limits_after k.limits e) (changed_rows k.limits e k.rows) (EachRow-changed P k.limits e k.rows h p)
+EachRow-after : (P : Numbered → Type 0) (k : Folded) (e : Entry) → EachRow P k.rows → PutsOk P e → EachRow P (after k e).rows
+EachRow-after P k e h p = EachRow-limited P (limits_after k.limits e) (changed_rows k.limits e k.rows) (EachRow-changed P k.limits e k.rows h p)
 
 -- what the entries put has P
 abbrev pub EachPut : (Numbered → Type 0) → List Entry → Type 0
 EachPut P [] = ⊤
 EachPut P (e ∷ es) = PutsOk P e × EachPut P es
 
-pub EachRow-standing : (P : Numbered → Type 0) (es : List Entry) (k : Standing) → EachRow P k.rows → EachPut P es → EachRow P (standing k es).rows
+pub EachRow-standing : (P : Numbered → Type 0) (es : List Entry) (k : Folded) → EachRow P k.rows → EachPut P es → EachRow P (standing k es).rows
 EachRow-standing P [] k h p = h
 EachRow-standing P (e ∷ es) k h p = EachRow-standing P es (after k e) (EachRow-after P k e h p.0) p.1
 
@@ -85,14 +86,14 @@ Rises-newest_of_each n low (row ∷ rows) h = let ih = Rises-newest_of_each n (s
 
 Rises-newest_within : (c : Config) (low : ℕ) (rows : List Numbered) → Rises low (seqs rows) → Rises low (seqs (newest_within c rows))
 Rises-newest_within c low [] h = tt
-Rises-newest_within c low (row ∷ rows) h = cond-rises low (is_within c.max_msgs (length (row ∷ rows)) && is_within c.max_bytes (sum_by (λ r. size r.message) (row ∷ rows))) (row ∷ rows) (newest_within c rows) h (Rises-weaker (suc row.seq) low (seqs (newest_within c rows)) (omega arith) (Rises-newest_within c (suc row.seq) rows h.1))
+Rises-newest_within c low (row ∷ rows) h = cond-rises low (is_in_limit c.max_msgs (length (row ∷ rows)) && is_in_limit c.max_bytes (sum_by (λ r. size r.message) (row ∷ rows))) (row ∷ rows) (newest_within c rows) h (Rises-weaker (suc row.seq) low (seqs (newest_within c rows)) (omega arith) (Rises-newest_within c (suc row.seq) rows h.1))
 
 Rises-push : (low top : ℕ) (rows : List Numbered) (row : Numbered) → low ≤ row.seq → top < row.seq → EachRow (λ r. r.seq ≤ top) rows → Rises low (seqs rows) → Rises low (seqs (rows ++ row ∷ []))
 Rises-push low top [] row le lt each h = (le, tt)
 Rises-push low top (r ∷ rows) row le lt each h = (h.0, Rises-push (suc r.seq) top rows row (omega arith) lt each.1 h.1)
 
-Rises-trimmed : (c : Config) (low : ℕ) (rows : List Numbered) → Rises low (seqs rows) → Rises low (seqs (trimmed c rows))
-Rises-trimmed c low rows h = Rises-newest_within c low _ (cond-rises low (eqb c.max_per_subject 0) rows (newest_of_each c.max_per_subject rows) h (Rises-newest_of_each c.max_per_subject low rows h))
+Rises-limited : (c : Config) (low : ℕ) (rows : List Numbered) → Rises low (seqs rows) → Rises low (seqs (limited c rows))
+Rises-limited c low rows h = Rises-newest_within c low _ (cond-rises low (eqb c.max_per_subject 0) rows (newest_of_each c.max_per_subject rows) h (Rises-newest_of_each c.max_per_subject low rows h))
 
 Rises-changed : (c : Config) (low : ℕ) (e : Entry) (rows : List Numbered) → EachRow (λ r. r.seq ≤ low) rows → IsAbove low e → Rises 0 (seqs rows) → Rises 0 (seqs (changed_rows c e rows))
 Rises-changed c low (Put seq message mark) rows each n h = Rises-push 0 low rows _ (omega arith) n each h
@@ -102,7 +103,7 @@ Rises-changed c low (Expire now) rows each n h = Rises-filter _ 0 rows h
 Rises-changed c low (Bind index incarnation start) rows each n h = h
 Rises-changed c low (Limits config) rows each n h = h
 
-PutsOk-below : (low : ℕ) (e : Entry) → PutsOk (λ r. r.seq ≤ max low (number_of e)) e
+PutsOk-below : (low : ℕ) (e : Entry) → PutsOk (λ r. r.seq ≤ max low (number_put e)) e
 PutsOk-below low (Put seq message mark) = omega arith
 PutsOk-below low (Del seq) = tt
 PutsOk-below low (Purge pattern below) = tt
@@ -110,27 +111,43 @@ PutsOk-below low (Expire now) = tt
 PutsOk-below low (Bind index incarnation start) = tt
 PutsOk-below low (Limits config) = tt
 
+PutsOk-weaker : (e : Entry) (top : ℕ) → number_put e ≤ top → PutsOk (λ r. r.seq ≤ top) e
+PutsOk-weaker (Put seq message mark) top le = le
+PutsOk-weaker (Del seq) top le = tt
+PutsOk-weaker (Purge pattern below) top le = tt
+PutsOk-weaker (Expire now) top le = tt
+PutsOk-weaker (Bind index incarnation start) top le = tt
+PutsOk-weaker (Limits config) top le = tt
+
 -- what is held after an entry rises to the last number
 pub Rises-held_after : (held : Held) (e : Entry) → IsAbove held.last e → EachRow (λ r. r.seq ≤ held.last) held.rows → Rises 0 (seqs held.rows) → Rises 0 (seqs (held_after held e).rows)
-Rises-held_after held e n each h = Rises-trimmed (limits_after held.limits e) 0 (changed_rows held.limits e held.rows) (Rises-changed held.limits held.last e held.rows each n h)
+Rises-held_after held e n each h = Rises-limited (limits_after held.limits e) 0 (changed_rows held.limits e held.rows) (Rises-changed held.limits held.last e held.rows each n h)
 
 pub below-held_after : (held : Held) (e : Entry) → EachRow (λ r. r.seq ≤ held.last) held.rows → EachRow (λ r. r.seq ≤ (held_after held e).last) (held_after held e).rows
 below-held_after held e each =
-    EachRow-after (λ r. r.seq ≤ max held.last (number_of e)) (record { limits = held.limits; rows = held.rows }) e
-    (EachRow-weaker (λ r. r.seq ≤ held.last) (λ r. r.seq ≤ max held.last (number_of e)) (λ r q. omega arith) held.rows each)
+    EachRow-after (λ r. r.seq ≤ max held.last (number_put e)) (record { limits = held.limits; rows = held.rows }) e
+    (EachRow-weaker (λ r. r.seq ≤ held.last) (λ r. r.seq ≤ max held.last (number_put e)) (λ r q. omega arith) held.rows each)
     (PutsOk-below held.last e)
 
-Rises-standing : (es : List Entry) (k : Standing) (low : ℕ) → EachRow (λ r. r.seq ≤ low) k.rows → RiseFrom low es → Rises 0 (seqs k.rows) → Rises 0 (seqs (standing k es).rows)
+Rises-standing : (es : List Entry) (k : Folded) (low : ℕ) → EachRow (λ r. r.seq ≤ low) k.rows → RiseFrom low es → Rises 0 (seqs k.rows) → Rises 0 (seqs (standing k es).rows)
 Rises-standing [] k low each n h = h
 Rises-standing (e ∷ es) k low each n h =
-    Rises-standing es (after k e) (max low (number_of e))
-    (EachRow-after (λ r. r.seq ≤ max low (number_of e)) k e (EachRow-weaker (λ r. r.seq ≤ low) (λ r. r.seq ≤ max low (number_of e)) (λ r q. omega arith) k.rows each) (PutsOk-below low e))
+    Rises-standing es (after k e) (max low (number_put e))
+    (EachRow-after (λ r. r.seq ≤ max low (number_put e)) k e (EachRow-weaker (λ r. r.seq ≤ low) (λ r. r.seq ≤ max low (number_put e)) (λ r q. omega arith) k.rows each) (PutsOk-below low e))
     n.1
-    (Rises-trimmed (limits_after k.limits e) 0 (changed_rows k.limits e k.rows) (Rises-changed k.limits low e k.rows each n.0 h))
+    (Rises-limited (limits_after k.limits e) 0 (changed_rows k.limits e k.rows) (Rises-changed k.limits low e k.rows each n.0 h))
 
 -- the kept numbers rise
 pub kept-rises : (h : History) → NumbersRise h.entries → Rises 0 (seqs (kept h))
 kept-rises h n = Rises-standing h.entries _ 0 tt n tt
+
+EachPut-below : (es : List Entry) (top : ℕ) → last es ≤ top → EachPut (λ r. r.seq ≤ top) es
+EachPut-below [] top le = tt
+EachPut-below (e ∷ es) top le = (PutsOk-weaker e top (omega (arith, le)), EachPut-below es top (omega (arith, le)))
+
+-- the kept numbers are at most the last one
+pub kept-below : (h : History) → EachRow (λ row. row.seq ≤ last h.entries) (kept h)
+kept-below h = EachRow-standing (λ row. row.seq ≤ last h.entries) h.entries _ tt (EachPut-below h.entries (last h.entries) (omega arith))
 
 none_above : (o : Option Message) (es : List Entry) (s : ℕ) → put s es ≡ o → last es < s → o ≡ None
 none_above None es s e lt = refl
@@ -182,7 +199,7 @@ PutsOk-other (Limits config) low s n le = tt
 
 EachPut-other : (es : List Entry) (low s : ℕ) → RiseFrom low es → s ≤ low → EachPut (λ r. r.seq ≢ s) es
 EachPut-other [] low s n le = tt
-EachPut-other (e ∷ es) low s n le = (PutsOk-other e low s n.0 le, EachPut-other es (max low (number_of e)) s n.1 (omega arith))
+EachPut-other (e ∷ es) low s n le = (PutsOk-other e low s n.0 le, EachPut-other es (max low (number_put e)) s n.1 (omega arith))
 
 -- A hole stays a hole.
 pub IsHole-stays : (c : Config) (es xs : List Entry) (s : ℕ) → NumbersRise (es ++ xs) →
@@ -190,7 +207,7 @@ pub IsHole-stays : (c : Config) (es xs : List Entry) (s : ℕ) → NumbersRise (
 IsHole-stays c es xs s n h = record {
   positive = h.positive;
   reached = (let q = last-append es xs in let r = h.reached in omega arith);
-  gone = message_at-none _ s (let P : Standing → Type 0 = λ k. EachRow (λ r. r.seq ≢ s) k.rows in
+  gone = message_at-none _ s (let P : Folded → Type 0 = λ k. EachRow (λ r. r.seq ≢ s) k.rows in
       subst P (sym (standing-append (record { limits = c; rows = [] }) es xs))
       (EachRow-standing (λ r. r.seq ≢ s) xs _ (each_from_none _ s h.gone)
       (EachPut-other xs (max 0 (last es)) s (RiseFrom-append es xs 0 n).1 (let r = h.reached in omega arith))));

@@ -8,5 +8,6 @@ mod Marking
 mod Newest
 mod Sending
 mod Settling
+mod Stepping
 mod Totals
 mod Trims

@@ -9,7 +9,7 @@ use Rattle.std.proofs.lemmas.List.Sums.{sum_by-cons, sum_by_push}
 use Rattle.nats_text.specs.Sizes.{size}
 use Rattle.stream_fold.specs.declared.config.Config.{Config}
 use Rattle.stream_fold.specs.declared.entry.Numbered.{Numbered}
-use Rattle.stream_fold.specs.Histories.{newest_of_each, newest_of_subjects, newest_within, are_within, has_subject_of, size_of, trimmed}
+use Rattle.stream_fold.specs.Histories.{newest_of_each, newest_of_subjects, newest_within, are_within, has_subject_of, size_of, limited}
 use Rattle.stream_fold.specs.Parts.{AreNewest}
 use Rattle.stream_fold.specs.RowLists.{without_first, with_place}
 use Rattle.stream_fold.proofs.Totals.{size_of-cons, size_of-push}
@@ -43,8 +43,8 @@ newest_within-newest n c [] h = tt
 newest_within-newest n c (row ∷ rows) h = cond-newest n (are_within c (row ∷ rows)) (row ∷ rows) (newest_within c rows) h (newest_within-newest n c rows h.1)
 
 -- what is left by the limits is settled
-pub trimmed-newest : (c : Config) (rows : List Numbered) → ¬ (c.max_per_subject ≡ 0) → AreNewest c.max_per_subject (trimmed c rows)
-trimmed-newest c rows ne = newest_within-newest c.max_per_subject c _ (rw (ne_eqb c.max_per_subject 0 ne) (newest_of_each-newest c.max_per_subject rows))
+pub limited-newest : (c : Config) (rows : List Numbered) → ¬ (c.max_per_subject ≡ 0) → AreNewest c.max_per_subject (limited c rows)
+limited-newest c rows ne = newest_within-newest c.max_per_subject c _ (rw (ne_eqb c.max_per_subject 0 ne) (newest_of_each-newest c.max_per_subject rows))
 
 count_by-push : (p : Numbered → Bool) (b : Bool) (row : Numbered) (xs : List Numbered) → p row ≡ b → count_by p (xs ++ row ∷ []) ≡ count_by p xs + cond b 1 0
 count_by-push p b row xs e = sum_by_push (λ x. cond (p x) 1 0) xs row ∙ ap (λ t. count_by p xs + cond t 1 0) e

@@ -1,6 +1,6 @@
--- The latest message of an identifier, by the entries and by what is held.
-use Rattle.std.proofs.Common.{◌≡◌, ℕ, ◌+◌, ◌≤◌, max, Bool, true, false, cond, leb, not, List, [], ◌∷◌, ◌++◌, Option, Some, None, refl, sym, ap, ◌∙◌, subst, arith}
-use Rattle.std.specs.Prelude.{filter, codes, Result}
+-- The latest message of an identifier among those that are held.
+use Rattle.std.proofs.Common.{◌≡◌, ℕ, ◌+◌, ◌≤◌, Bool, true, false, cond, leb, not, List, [], ◌∷◌, ◌++◌, Option, Some, None, refl, sym, ap, ◌∙◌, arith}
+use Rattle.std.specs.Prelude.{filter, codes}
 use Rattle.std.specs.Cmp.Lexicographic.{bytes_decides}
 use Rattle.std.specs.Str.{bytes_eq}
 use Rattle.std.proofs.lemmas.Bool.{leb-true, le-ltb}
@@ -10,11 +10,10 @@ use Rattle.stream_fold.specs.declared.entry.Entry.{Entry}
 use Rattle.stream_fold.specs.declared.entry.Entry.TheVariants.{Put, Del, Purge, Expire, Bind, Limits}
 use Rattle.stream_fold.specs.declared.entry.Numbered.{Numbered}
 use Rattle.stream_fold.specs.declared.parts.Sent.{Sent}
-use Rattle.stream_fold.specs.Histories.{History, either, moment_of, clock, last, kept, stands}
-use Rattle.stream_fold.specs.Publishing.{latest_in, number_in, latest_sent, sent_by, in_window, is_value, repeated_in, dup_of, verdict, verdict_held, verdict_behind, earlier_refusal, later_refusal, GivesVerdict}
-use Rattle.stream_fold.specs.declared.verdict.Verdict.{Verdict}
-use Rattle.stream_fold.specs.declared.verdict.Refusal.{Refusal}
-use Rattle.stream_fold.specs.Held.{Held, held_of, with_sent, still_open, sent_after, sent_from, id_of}
+use Rattle.stream_fold.specs.Histories.{either}
+use Rattle.stream_fold.specs.Publishing.{sent_by, in_window, is_value}
+use Rattle.stream_fold.specs.Held.{latest_in, number_in, id_of}
+use Rattle.stream_fold.specs.Parts.{with_sent, still_open, sent_after}
 
 -- one that is closed at a moment gives no number then
 closed-none : (w moment : ℕ) (o : Option Sent) (b : Bool) (s : Sent) → s.time + w ≤ moment → number_in w moment (either o (cond b (Some s) None)) ≡ number_in w moment o
@@ -52,7 +51,7 @@ latest_in-with id s [] b e = ap (λ d. cond d (Some s) None) e
 latest_in-with id s (t ∷ ss) b e = with-step id s t ss b (bytes_eq t.id s.id) e refl (latest_in-with id s ss b e)
 
 -- the number of the later of two
-abbrev number_or : ℕ → ℕ → Option Numbered → Option Sent → Option ℕ
+abbrev pub number_or : ℕ → ℕ → Option Numbered → Option Sent → Option ℕ
 number_or w moment None o = number_in w moment o
 number_or w moment (Some row) o = in_window w moment (Some row)
 
@@ -64,7 +63,8 @@ sent-put : (id : List ℕ) (w now moment : ℕ) (o : Option (List ℕ)) (number 
 sent-put id w now moment None number message ss le = refl
 sent-put id w now moment (Some i) number message ss le = number_in-open id w now moment (with_sent (record { id = i; seq = number; time = message.time }) ss) le ∙ sent-here id w moment i number message ss (bytes_eq i id) refl
 
-sent-step : (id : List ℕ) (w now moment : ℕ) (e : Entry) (ss : List Sent) → now ≤ moment → number_in w moment (latest_in id (sent_after w now (id_of e) e ss)) ≡ number_or w moment (sent_by id e) (latest_in id ss)
+-- what an entry does to the repeats of an identifier
+pub sent-step : (id : List ℕ) (w now moment : ℕ) (e : Entry) (ss : List Sent) → now ≤ moment → number_in w moment (latest_in id (sent_after w now (id_of e) e ss)) ≡ number_or w moment (sent_by id e) (latest_in id ss)
 sent-step id w now moment (Put number message None) ss le = sent-put id w now moment (first_value (codes "Nats-Msg-Id") message.headers) number message ss le
 sent-step id w now moment (Put number message (Some mark)) ss le = refl
 sent-step id w now moment (Del number) ss le = refl
@@ -73,30 +73,7 @@ sent-step id w now moment (Expire at) ss le = refl
 sent-step id w now moment (Bind index incarnation start) ss le = refl
 sent-step id w now moment (Limits config) ss le = refl
 
-number_or-either : (w moment : ℕ) (later earlier : Option Numbered) (o p : Option Sent) → number_in w moment p ≡ number_or w moment earlier o → number_or w moment later p ≡ number_or w moment (either later earlier) o
-number_or-either w moment (Some row) earlier o p e = refl
-number_or-either w moment None earlier o p e = e
-
-sent-all : (id : List ℕ) (w now moment : ℕ) (es : List Entry) (ss : List Sent) → max now (clock es) ≤ moment → number_in w moment (latest_in id (sent_from w now ss es)) ≡ number_or w moment (latest_sent id es) (latest_in id ss)
-sent-all id w now moment [] ss le = refl
-sent-all id w now moment (e ∷ es) ss le =
-    let top : ℕ = max now (moment_of e) in
-    let next : List Sent = sent_after w top (id_of e) e ss in
-    sent-all id w top moment es next (omega (arith, le))
-    ∙ number_or-either w moment (latest_sent id es) (sent_by id e) (latest_in id ss) (latest_in id next) (sent-step id w top moment e ss (omega (arith, le)))
-
-number_or-None : (w moment : ℕ) (o : Option Numbered) → number_or w moment o None ≡ in_window w moment o
-number_or-None w moment None = refl
-number_or-None w moment (Some row) = refl
-
--- what is held tells the repeats of the history
-pub repeated_in-dup : (h : History) (o : Option (List ℕ)) (now : ℕ) → repeated_in (held_of h) o now ≡ dup_of h o now
-repeated_in-dup h None now = refl
-repeated_in-dup h (Some id) now = sent-all id h.config.window 0 (max now (clock h.entries)) h.entries [] (omega arith) ∙ number_or-None h.config.window (max now (clock h.entries)) (latest_sent id h.entries)
-
--- what is held gives the verdict of each history that it stands for
-pub verdict_held-of : (h : History) (m : Message) (now : ℕ) → verdict_held (held_of h) m now ≡ verdict h m now
-verdict_held-of h m now = ap (λ r. verdict_behind (earlier_refusal (stands h).limits m) r (later_refusal (stands h).limits m (kept h) (last h.entries))) (repeated_in-dup h (first_value (codes "Nats-Msg-Id") m.headers) now)
-
-pub gives_verdict : (held : Held) (h : History) (m : Message) (now : ℕ) (result : Result Verdict Refusal) → held ≡ held_of h → GivesVerdict result (verdict_held held m now) → GivesVerdict result (verdict h m now)
-gives_verdict held h m now result same gives = subst (GivesVerdict result) (ap (λ k. verdict_held k m now) same ∙ verdict_held-of h m now) gives
+-- the later of an entry's message and of those before it
+pub number_or-either : (w moment : ℕ) (later earlier : Option Numbered) (o : Option Sent) → number_in w moment o ≡ in_window w moment earlier → number_or w moment later o ≡ in_window w moment (either later earlier)
+number_or-either w moment (Some row) earlier o e = refl
+number_or-either w moment None earlier o e = e

@@ -63,18 +63,18 @@ mark_in index [] = None
 mark_in index (m ∷ ms) = if m.index == index then Some m.seq else mark_in index ms
 
 -- the origin that an index names
-abbrev pub origin_at : ℕ → Copies → Option Origin
-origin_at index Nothing = None
-origin_at index (Mirror origin) = if index == 0 then Some origin else None
-origin_at index (Sources origins) = slice_get origins index
+abbrev pub origin_named : ℕ → Copies → Option Origin
+origin_named index Nothing = None
+origin_named index (Mirror origin) = if index == 0 then Some origin else None
+origin_named index (Sources origins) = slice_get origins index
 
 -- where the copy of an origin starts, and 1 where there is none
 abbrev pub start_of : Option BoundTo → Option Origin → ℕ
 start_of bound None = 1
 start_of bound (Some origin) = start_by bound origin.start
 
-abbrev pub start_at : ℕ → History → ℕ
-start_at index h = start_of (bound index h.entries) (origin_at index (stands h).limits.copies)
+abbrev pub copy_start : ℕ → History → ℕ
+copy_start index h = start_of (bound index h.entries) (origin_named index (stands h).limits.copies)
 
 abbrev pub mark_or : Option ℕ → ℕ → ℕ
 mark_or None number = number
@@ -83,7 +83,7 @@ mark_or (Some mark) number = mark
 -- How far the copy of an index has come: the mark of its last message, else the number before its
 -- start.
 abbrev pub mark : ℕ → History → ℕ
-mark index h = mark_or (last_mark index h.entries) (start_at index h - 1)
+mark index h = mark_or (last_mark index h.entries) (copy_start index h - 1)
 
 -- how far a mirror has come: its last number, or the one before its start
 abbrev pub front : Start → List Entry → ℕ

@@ -38,18 +38,18 @@ put seq [] = None
 put seq (e ∷ es) = either (put_by seq e) (put seq es)
 
 -- the number that this entry puts, else 0
-abbrev pub number_of : Entry → ℕ
-number_of (Put number message mark) = number
-number_of (Del number) = 0
-number_of (Purge pattern below) = 0
-number_of (Expire now) = 0
-number_of (Bind index incarnation start) = 0
-number_of (Limits config) = 0
+abbrev pub number_put : Entry → ℕ
+number_put (Put number message mark) = number
+number_put (Del number) = 0
+number_put (Purge pattern below) = 0
+number_put (Expire now) = 0
+number_put (Bind index incarnation start) = 0
+number_put (Limits config) = 0
 
 -- the greatest number put, else 0
 abbrev pub last : List Entry → ℕ
 last [] = 0
-last (e ∷ es) = max (number_of e) (last es)
+last (e ∷ es) = max (number_put e) (last es)
 
 -- the moment of this entry: the time of a Put or the moment of an Expire, else 0
 abbrev pub moment_of : Entry → ℕ
@@ -75,7 +75,7 @@ mark_of (Bind index incarnation start) = None
 mark_of (Limits config) = None
 
 -- the configuration in force, and the messages that are kept, oldest first
-pub record Standing : Type 0 where
+pub record Folded : Type 0 where
   pub limits : Config
   pub rows : List Numbered
 
@@ -88,15 +88,15 @@ newest_of_each n [] = []
 newest_of_each n (row ∷ rows) = if nat_le n (count_by (has_subject_of row) rows) then newest_of_each n rows else row ∷ newest_of_each n rows
 
 -- a limit of 0 is none
-abbrev pub is_within : ℕ → ℕ → Bool
-is_within limit n = (limit == 0) || nat_le n limit
+abbrev pub is_in_limit : ℕ → ℕ → Bool
+is_in_limit limit n = (limit == 0) || nat_le n limit
 
 abbrev pub size_of : List Numbered → ℕ
 size_of rows = sum_by (λ row. size row.message) rows
 
 -- the messages within the limits on their count and their bytes
 abbrev pub are_within : Config → List Numbered → Bool
-are_within c rows = is_within c.max_msgs (length rows) && is_within c.max_bytes (size_of rows)
+are_within c rows = is_in_limit c.max_msgs (length rows) && is_in_limit c.max_bytes (size_of rows)
 
 -- without the shortest prefix that brings them within the limits
 abbrev pub newest_within : Config → List Numbered → List Numbered
@@ -107,8 +107,8 @@ abbrev pub newest_of_subjects : ℕ → List Numbered → List Numbered
 newest_of_subjects most rows = if most == 0 then rows else newest_of_each most rows
 
 -- first the limit of each subject, then those of the stream
-abbrev pub trimmed : Config → List Numbered → List Numbered
-trimmed c rows = newest_within c (newest_of_subjects c.max_per_subject rows)
+abbrev pub limited : Config → List Numbered → List Numbered
+limited c rows = newest_within c (newest_of_subjects c.max_per_subject rows)
 
 abbrev pub is_purged : List ℕ → ℕ → Numbered → Bool
 is_purged pattern below row = nat_lt row.seq below && matches pattern row.message.subject
@@ -135,18 +135,18 @@ limits_after c (Bind index incarnation start) = c
 limits_after c (Limits config) = config
 
 abbrev pub rows_after : Config → Entry → List Numbered → List Numbered
-rows_after c e rows = trimmed (limits_after c e) (changed_rows c e rows)
+rows_after c e rows = limited (limits_after c e) (changed_rows c e rows)
 
-abbrev pub after : Standing → Entry → Standing
+abbrev pub after : Folded → Entry → Folded
 after k e = record { limits = limits_after k.limits e; rows = rows_after k.limits e k.rows }
 
 -- what stands after these entries, the first of them first
-abbrev pub standing : Standing → List Entry → Standing
+abbrev pub standing : Folded → List Entry → Folded
 standing k [] = k
 standing k (e ∷ es) = standing (after k e) es
 
 -- what stands at a history's end
-abbrev pub stands : History → Standing
+abbrev pub stands : History → Folded
 stands h = standing (record { limits = h.config; rows = [] }) h.entries
 
 -- the messages that are kept, oldest first
@@ -170,7 +170,7 @@ IsAbove low (Limits config) = ⊤
 -- each Put has a number above this one and above those before it
 abbrev pub RiseFrom : ℕ → List Entry → Type 0
 RiseFrom low [] = ⊤
-RiseFrom low (e ∷ es) = IsAbove low e × RiseFrom (max low (number_of e)) es
+RiseFrom low (e ∷ es) = IsAbove low e × RiseFrom (max low (number_put e)) es
 
 -- each Put has a number above those before it
 abbrev pub NumbersRise : List Entry → Type 0

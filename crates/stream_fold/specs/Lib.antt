@@ -1,6 +1,7 @@
 pub mod Checking
 pub mod Copying
 pub mod Counting
+pub mod Fits
 pub mod Held
 pub mod Histories
 pub mod Laws

@@ -14,13 +14,11 @@ use Rattle.stream_fold.specs.declared.entry.Entry.{Entry}
 use Rattle.stream_fold.specs.declared.entry.Entry.TheVariants.{Put, Del, Purge, Expire, Bind, Limits}
 use Rattle.stream_fold.specs.declared.entry.Mark.{Mark}
 use Rattle.stream_fold.specs.declared.entry.Numbered.{Numbered}
-use Rattle.stream_fold.specs.declared.parts.Sent.{Sent}
 use Rattle.stream_fold.specs.declared.verdict.Verdict.{Verdict}
 use Rattle.stream_fold.specs.declared.verdict.Verdict.TheVariants.{Fresh, Duplicate}
 use Rattle.stream_fold.specs.declared.verdict.Refusal.{Refusal}
 use Rattle.stream_fold.specs.declared.verdict.Refusal.TheVariants.{IsMirror, BadHeader, WrongStream, WrongLast, WrongSubjectLast, TooLarge, SeqEnd, Full, NoMemory}
 use Rattle.stream_fold.specs.Checking.{is_mirror}
-use Rattle.stream_fold.specs.Held.{Held}
 use Rattle.stream_fold.specs.Histories.{History, either, last, clock, stands, kept, newest_of_subjects, are_within, size_of}
 
 -- ---- repeats
@@ -174,25 +172,6 @@ UnlessNoMemory NoMemory fact = Unit {0}
 abbrev pub GivesVerdict : Result Verdict Refusal → Result Verdict Refusal → Type 0
 GivesVerdict (Ok answer) verdict = verdict ≡ Ok answer
 GivesVerdict (Err refusal) verdict = UnlessNoMemory refusal (verdict ≡ Err refusal)
-
--- what was sent as this, latest last
-abbrev pub latest_in : List ℕ → List Sent → Option Sent
-latest_in id [] = None
-latest_in id (s ∷ ss) = either (latest_in id ss) (if bytes_eq s.id id then Some s else None)
-
--- its number, where its time plus the window is above the moment
-abbrev pub number_in : ℕ → ℕ → Option Sent → Option ℕ
-number_in window moment None = None
-number_in window moment (Some s) = if nat_lt moment (s.time + window) then Some s.seq else None
-
--- the number of which a publish of this identifier would be a repeat, by what is held
-abbrev pub repeated_in : Held → Option (List ℕ) → ℕ → Option ℕ
-repeated_in held None now = None
-repeated_in held (Some id) now = number_in held.window (max now held.clock) (latest_in id held.sent)
-
--- what a publish is answered, by what is held
-abbrev pub verdict_held : Held → Message → ℕ → Result Verdict Refusal
-verdict_held held m now = verdict_behind (earlier_refusal held.limits m) (repeated_in held (first_value (codes "Nats-Msg-Id") m.headers) now) (later_refusal held.limits m held.rows held.last)
 
 -- the number is that of a row at or after `from` that one of the filters takes, or all where there is none
 abbrev pub is_next : ℕ → List (List ℕ) → Numbered → Bool

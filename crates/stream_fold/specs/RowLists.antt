@@ -3,7 +3,7 @@ use Rattle.std.specs.Prelude.{◌≡◌, ◌<◌, ◌≤◌, ◌^◌, ◌==◌, 
 use Rattle.std.specs.Str.{bytes_eq}
 use Rattle.stream_fold.specs.declared.config.Config.{Config}
 use Rattle.stream_fold.specs.declared.entry.Numbered.{Numbered}
-use Rattle.stream_fold.specs.Histories.{is_within, size_of}
+use Rattle.stream_fold.specs.Histories.{is_in_limit, size_of}
 
 -- the messages, and how many more may be added without memory
 pub record RowList : Type 0 where
@@ -17,7 +17,7 @@ pub record IsTotal (total : ℕ) (rows : List Numbered) : Type 0 where
 
 -- so many messages of so many bytes are within the limits
 abbrev pub counts_within : Config → ℕ → ℕ → Bool
-counts_within c count bytes = is_within c.max_msgs count && is_within c.max_bytes bytes
+counts_within c count bytes = is_in_limit c.max_msgs count && is_in_limit c.max_bytes bytes
 
 -- without the first message of the subject
 abbrev pub without_first : List ℕ → List Numbered → List Numbered

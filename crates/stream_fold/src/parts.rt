@@ -3,8 +3,8 @@ ghost use Rattle.std.specs.Vec.{vec_capacity};
 ghost use Rattle.std.specs.Str.{bytes_eq};
 ghost use Rattle.nats_text.specs.Sizes.{size};
 ghost use Rattle.stream_fold.specs.Histories.{size_of};
-ghost use Rattle.stream_fold.specs.Held.{id_of, sent_id, size_put, with_mark, with_sent, still_open};
-ghost use Rattle.stream_fold.specs.Parts.{held_in, room_in, changed_newest, with_message, IsSettled};
+ghost use Rattle.stream_fold.specs.Held.{id_of, sent_id, size_put};
+ghost use Rattle.stream_fold.specs.Parts.{held_in, room_in, changed_newest, with_message, with_mark, with_sent, still_open, IsSettled};
 
 use crate::rows::Rows;
 use crate::trim::{drop_front, is_older};

@@ -6,8 +6,9 @@ ghost use Rattle.std.specs.Option.{option_copied};
 ghost use Rattle.nats_text.specs.Sizes.{size};
 ghost use Rattle.stream_fold.specs.Checking.{is_mirror};
 ghost use Rattle.stream_fold.specs.Histories.{size_of};
-ghost use Rattle.stream_fold.specs.Publishing.{GivesVerdict, verdict_held, later_refusal, bad_header, is_no_number, is_other_number, is_other_text, last_of, content_size, repeated_in, latest_in, rows_with, next_match, is_next};
-ghost use Rattle.stream_fold.specs.Parts.{held_in, IsSettled};
+ghost use Rattle.stream_fold.specs.Publishing.{GivesVerdict, later_refusal, bad_header, is_no_number, is_other_number, is_other_text, last_of, content_size, rows_with, next_match, is_next};
+ghost use Rattle.stream_fold.specs.Held.{repeated_in, latest_in};
+ghost use Rattle.stream_fold.specs.Parts.{held_in, verdict_held, IsSettled};
 ghost use Rattle.stream_fold.specs.Counting.{pushed_out, full_refusal, other_subject_last};
 ghost use Rattle.nats_text.specs.Headers.{has_name};
 

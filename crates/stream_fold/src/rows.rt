@@ -56,6 +56,7 @@ impl Rows {
     /// Makes room for one row.
     pub fn reserve(&mut self) -> Result<(), NoMemory>
         ensures rows { self.new.rows ≡ self.old.rows }
+        ensures room { self.old.room ≤ self.new.room }
         ensures ok { OnOk result (0 < self.new.room) }
     {
         self.items.reserve(1)?;

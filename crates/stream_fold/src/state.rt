@@ -1,10 +1,12 @@
-ghost use Rattle.std.specs.Prelude.{◌≡◌, ◌<◌, ◌+◌, ◌^◌, ◌↔◌, [], length, IsTrue, IfOk, OnOk};
+ghost use Rattle.std.specs.Prelude.{◌≡◌, ◌<◌, ◌+◌, ◌^◌, ◌↔◌, [], length, IsTrue, IfOk, OnOk, OnErr};
 ghost use Rattle.std.specs.Option.{option_copied};
 ghost use Rattle.nats_text.specs.Sizes.{size};
 ghost use Rattle.stream_fold.specs.Histories.{History, with_entry, message_at, size_of};
-ghost use Rattle.stream_fold.specs.Copying.{binding_at, mark, mark_in, origin_at, start_of};
+ghost use Rattle.stream_fold.specs.Copying.{binding_at, mark, mark_in, origin_named, start_of};
 ghost use Rattle.stream_fold.specs.Publishing.{GivesVerdict, verdict, last_of, next_match};
-ghost use Rattle.stream_fold.specs.Held.{StandsFor, Fits, HasRoom, KeepsMembers, held_after, first_of, index_count, id_of, sent_id, size_put};
+ghost use Rattle.stream_fold.specs.declared.entry.Entry.{Entry};
+ghost use Rattle.stream_fold.specs.Fits.{Fits, KeepsMembers, index_count};
+ghost use Rattle.stream_fold.specs.Held.{StandsFor, HasRoom, first_of, id_of, sent_id, size_put};
 ghost use Rattle.stream_fold.specs.RowLists.{from_number, seqs, Rises};
 
 use crate::parts::{Parts, change};
@@ -145,7 +147,10 @@ impl StreamState {
     {
         match last_mark(&self.parts.marks, index) {
             Some(seq) => seq,
-            None => start_of(self.bound(index), origin_at(&self.config().copies, index)) - 1,
+            None => start_of(
+                self.bound(index),
+                origin_named(&self.config().copies, index),
+            ) - 1,
         }
     }
 
@@ -177,7 +182,7 @@ impl StreamState {
     /// its mark; a Del names a kept number; a Bind names an index of the copies that isn't bound; a
     /// Limits keeps the name, the duplicate window and the copies.
     pub fn fits(&self, entry: &Entry) -> bool
-        ensures { IsTrue result ↔ Fits self.now.held entry.now }
+        ensures { (h : History) → StandsFor self.now h → IsTrue result ↔ Fits h entry.now }
     {
         match entry {
             Entry::Put { seq, mark, .. } => {
@@ -195,27 +200,28 @@ impl StreamState {
     }
 
     /// Makes room for one entry, so that `apply` takes no memory. There is none either where the sum
-    /// of the sizes would pass `2^64 - 1`.
+    /// of the sizes would pass `2^64 - 1`. An error leaves the room that was made for another entry.
     pub fn reserve_for(&mut self, entry: &Entry) -> Result<(), NoMemory>
         ensures held { self.new.held ≡ self.old.held }
         ensures ok { OnOk result (HasRoom self.new entry.now) }
+        ensures err { OnErr result ((other : Entry) → HasRoom self.old other → HasRoom self.new other) }
     {
         if !sum_fits(self.size(), entry) {
             return Err(NoMemory);
         }
-        self.parts.spare = id_of(self.parts.alloc, entry)?;
+        let spare = id_of(self.parts.alloc, entry)?;
         self.parts.rows.reserve()?;
         self.parts.bindings.reserve(1)?;
         self.parts.marks.reserve(1)?;
         self.parts.sent.reserve(1)?;
+        self.parts.spare = spare;
         Ok(())
     }
 
     /// Takes an entry. The state then stands for the history with that entry.
     pub fn apply(&mut self, entry: Entry)
-        requires fits { Fits self.old.held entry }
+        requires fits { (h : History) × StandsFor self.old h × Fits h entry }
         requires room { HasRoom self.old entry }
-        ensures step { self.new.held ≡ held_after self.old.held entry }
         ensures history { (history : History) → StandsFor self.old history → StandsFor self.new (with_entry history entry) }
     {
         change(&mut self.parts, entry);
@@ -235,8 +241,8 @@ fn last_mark(marks: &[Mark], index: u32) -> Option<u64>
 }
 
 /// The origin that an index names.
-fn origin_at(copies: &Copies, index: u32) -> Option<&Origin>
-    ensures { option_copied result ≡ origin_at index copies.now }
+fn origin_named(copies: &Copies, index: u32) -> Option<&Origin>
+    ensures { option_copied result ≡ origin_named index copies.now }
 {
     match copies {
         Copies::Nothing => None,

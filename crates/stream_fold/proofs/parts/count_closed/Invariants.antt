@@ -1,5 +1,5 @@
 use Rattle.std.proofs.Common.{◌≡◌, ◌≤◌, ◌-◌, length, drop}
-use Rattle.stream_fold.specs.Held.{still_open}
+use Rattle.stream_fold.specs.Parts.{still_open}
 use Rattle.stream_fold.proofs.parts.count_closed.Given as goal
 
 -- those that are still open are to be found behind the place

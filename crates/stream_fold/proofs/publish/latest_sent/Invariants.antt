@@ -1,7 +1,7 @@
 use Rattle.std.proofs.Common.{◌≡◌, drop}
 use Rattle.std.specs.Option.{option_copied}
 use Rattle.stream_fold.specs.Histories.{either}
-use Rattle.stream_fold.specs.Publishing.{latest_in}
+use Rattle.stream_fold.specs.Held.{latest_in}
 use Rattle.stream_fold.proofs.publish.latest_sent.Given as goal
 
 -- what the rest gives, else what was found, is the answer

@@ -1,15 +1,30 @@
 -- What an append leaves after each of its two writes, each followed by a sync.
-use Rattle.std.proofs.Common.{◌≡◌, inl, inr, ⊎_elim, ℕ, ◌+◌, ◌<◌, ◌≤◌, ◌^◌, true, List, [], ◌∷◌, ◌++◌, length, All, refl, sym, ◌∙◌, ap, subst, append_assoc}
+use Rattle.std.proofs.Common.{◌≡◌, ◌⊎◌, inl, inr, ⊎_elim, ℕ, ◌+◌, ◌<◌, ◌≤◌, ◌^◌, true, List, [], ◌∷◌, ◌++◌, length, take, drop, All, arith, length-append, refl, sym, ◌∙◌, ap, subst, append_assoc}
 use Rattle.std.specs.Prelude.{Option, Result, Err}
+use Rattle.std.specs.Int.{w32, to_le_bytes}
+use Rattle.std.proofs.lemmas.List.{length-take, length-drop}
 use Rattle.std.proofs.lemmas.List.Elements.{All-append, All-cons, All-nil}
 use Rattle.leaf_edges.specs.Disks.{Op, Torn, Only, overwritten}
 use Rattle.gate_journal.specs.Areas.{end_of, IsBody, IsArea}
-use Rattle.gate_journal.specs.Journals.{IsBeforeOrAfter, Does, staged}
-use Rattle.gate_journal.specs.Walks.{MayTear}
+use Rattle.gate_journal.specs.Journals.{MayTear, Does, staged}
 use Rattle.gate_journal.specs.declared.fault.AppendFault.{AppendFault}
 use Rattle.gate_journal.specs.declared.fault.AppendFault.TheVariants.{DiskFault, NoMemory}
 use Rattle.gate_journal.proofs.Blocks.{Shut, front_of, behind_gate, area_shut, shut_area, front-push, length-front}
 use Rattle.gate_journal.proofs.Crash.{Staged, torn_behind, written_behind, staged_shut, torn_gate, written_gate, shut_long}
+
+-- neither a write nor a crash in it makes more bytes than there were or than it reaches
+torn_short : (n place count : ℕ) (d c : List ℕ) → length d ≤ n → place + count ≤ n → Torn place count d c → length c ≤ n
+torn_short n place count d c short reach torn = omega (arith, torn.no_longer)
+
+pub tear_short : (n place count : ℕ) (images : List ℕ → Type 0) → ((c : List ℕ) → images c → length c ≤ n) → place + count ≤ n → (c : List ℕ) → MayTear images place count c → length c ≤ n
+tear_short n place count images short reach c = ⊎_elim (short c) (λ (t : (d : List ℕ) × images d × Torn place count d c). torn_short n place count t.0 c (short t.0 t.1) reach t.2)
+
+pub written_short : (n place : ℕ) (d c bytes : List ℕ) → length d ≤ n → place + length bytes ≤ n → c ≡ overwritten d place bytes → length c ≤ n
+written_short n place d c bytes short reach is =
+    omega (arith, ap length is, length-append (take place d ++ bytes) (drop (place + length bytes) d), length-append (take place d) bytes, length-take place d, length-drop (place + length bytes) d)
+
+pub length-staged : (body : List ℕ) → length (staged body) ≡ 5 + length body
+length-staged body = omega (arith, length-append (to_le_bytes w32 (length body) ++ body) (0 ∷ []), length-append (to_le_bytes w32 (length body)) body)
 
 module _ (g : ℕ) (bs : List (List ℕ)) (at : ℕ) (e : at ≡ end_of bs) where
   pub size : length (front_of g bs) ≡ at
@@ -46,14 +61,18 @@ module _ (g : ℕ) (bs : List (List ℕ)) (at : ℕ) (e : at ≡ end_of bs) wher
       one_more : (c : List ℕ) → Ready c → (x : List ℕ) → Shut (front_of g bs ++ 1 ∷ behind_gate body) x → IsArea true g (bs ++ body ∷ []) x
       one_more c r x s = shut_area g (bs ++ body ∷ []) x r.stamp (All-append IsBody bs (body ∷ []) r.legal (All-cons IsBody body [] is_body (All-nil IsBody))) (subst (λ (f : List ℕ). Shut f x) (sym (front-push g bs body)) s)
 
-      gated : (d c : List ℕ) → Ready d → Torn at 1 d c → IsBeforeOrAfter g bs body c
+      -- the bodies as before, or with the new one last
+      abbrev Either : List ℕ → Type 0
+      Either c = IsArea true g bs c ⊎ IsArea true g (bs ++ body ∷ []) c
+
+      gated : (d c : List ℕ) → Ready d → Torn at 1 d c → Either c
       gated d c r torn = ⊎_elim (λ (s : Shut (front_of g bs) c). inl (shut_area g bs c r.stamp r.legal s)) (λ s. inr (one_more d r c s)) (torn_gate (front_of g bs) at size (behind_gate body) d c r.stands torn)
 
       pub finished : (d c : List ℕ) → Ready d → c ≡ overwritten d at (1 ∷ []) → IsArea true g (bs ++ body ∷ []) c
       finished d c r is = one_more d r c (written_gate (front_of g bs) at size (behind_gate body) d c r.stands is)
 
       -- the one image of the disk between, or what the second write makes of it
-      pub torn_after : (images : List ℕ → Type 0) (seen : List ℕ) → Only seen images → Ready seen → (c : List ℕ) → MayTear images at 1 c → IsBeforeOrAfter g bs body c
+      pub torn_after : (images : List ℕ → Type 0) (seen : List ℕ) → Only seen images → Ready seen → (c : List ℕ) → MayTear images at 1 c → IsArea true g bs c ⊎ IsArea true g (bs ++ body ∷ []) c
       torn_after images seen only r c =
           ⊎_elim
           (λ (now : images c). inl (subst (IsArea true g bs) (sym (only c now)) (ready_area seen r)))

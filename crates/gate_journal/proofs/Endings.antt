@@ -1,10 +1,10 @@
 -- What a journal's load answers, where an area's reading has answered.
 use Rattle.std.proofs.Common.{◌≡◌, ◌≢◌, true, false, ℕ, ◌≤◌, inr, List, [], ◌∷◌, ◌++◌, length, refl, sym, ◌∙◌, ap, subst, arith, length-append}
-use Rattle.std.specs.Prelude.{Bool, Result, Ok, Err, Some}
+use Rattle.std.specs.Prelude.{Bool, Option, Result, Ok, Err, Some, None, IfOk, IfSome}
 use Rattle.std.proofs.lemmas.Bool.Decides.{nat_tests}
+use Rattle.leaf_edges.specs.Disks.{Only}
 use Rattle.gate_journal.specs.Areas.{head, blocks, end_of, AreaState, Holds, IsArea, IsUnreadable, BreaksAt, EndsIn}
-use Rattle.gate_journal.specs.Journals.{JournalState, Reads, ReadsArea}
-use Rattle.gate_journal.specs.Walks.{OfArea}
+use Rattle.gate_journal.specs.Journals.{JournalState, OfArea, Reads, ReadsArea, Stands, journal_of}
 use Rattle.gate_journal.specs.declared.area.Ending.{Ending}
 use Rattle.gate_journal.specs.declared.area.Ending.TheVariants.{Closed, Missing, Unreadable}
 use Rattle.gate_journal.specs.declared.fault.LoadFault.{LoadFault}
@@ -21,7 +21,7 @@ uncounted_long area s held off =
     omega (arith, held.long, ap length held.is, none, length-append (head held.area_gate area.generation ++ blocks area.bodies) held.rest, length-append (head held.area_gate area.generation) (blocks area.bodies))
 
 -- an area whose records end at a closed gate is whole
-whole_of : (area : AreaState) (s : List ℕ) → Holds area s → area.ending ≡ Closed → IsArea area.counts area.generation area.bodies s
+pub whole_of : (area : AreaState) (s : List ℕ) → Holds area s → area.ending ≡ Closed → IsArea area.counts area.generation area.bodies s
 whole_of area s held closed =
     let found = gate_of area.counts held.rest (λ yes. subst (λ (e : Ending). EndsIn e held.rest) closed (held.ends yes)) (uncounted_long area s held) in
     record {
@@ -35,6 +35,37 @@ whole_of area s held closed =
       closed = found.3;
       unread = λ no. (held.unread no).0;
     }
+
+-- and a whole area is held, with a closed gate at its end
+pub held_of : (counts : Bool) (generation : ℕ) (bodies : List (List ℕ)) (s : List ℕ) → IsArea counts generation bodies s → Holds (record { counts = counts; generation = generation; bodies = bodies; ending = Closed }) s
+held_of counts generation bodies s a = record {
+  area_gate = a.area_gate;
+  rest = a.gate ∷ a.rest;
+  is = a.is;
+  long = omega (arith, ap length a.is, length-append (head a.area_gate generation ++ blocks bodies) (a.gate ∷ a.rest), length-append (head a.area_gate generation) (blocks bodies));
+  counted = a.counted;
+  stamp = a.stamp;
+  legal = a.legal;
+  ends = λ yes. (a.gate, a.rest, refl, a.closed yes);
+  unread = λ no. (a.unread no, refl);
+}
+
+-- on a disk that was synced, an area that counts and is whole is that of a journal that stands
+stands_read : {D : Type 0} (images : D → List ℕ → Type 0) (disk : D) (s : List ℕ) (area : AreaState) → Only s (images disk) → ReadsArea s (Ok (Some area)) → area.counts ≡ true → area.ending ≡ Closed → Stands images disk (journal_of area) area.bodies
+stands_read images disk s area only read counts closed =
+    let whole = subst (λ (k : Bool). IsArea k area.generation area.bodies s) counts (whole_of area s read.1 closed) in
+    record {
+      counted = counts;
+      place = refl;
+      each = λ c now. subst (IsArea true area.generation area.bodies) (sym (only c now)) whole;
+      short = λ c now. omega (arith, read.0, ap length (only c now));
+    }
+
+pub stands_if_read : {D : Type 0} (images : D → List ℕ → Type 0) (disk : D) (s : List ℕ) (result : Result (Option AreaState) LoadFault) → Only s (images disk) → ReadsArea s result
+    → IfOk result (λ found. IfSome found (λ area. area.counts ≡ true → area.ending ≡ Closed → Stands images disk (journal_of area) area.bodies))
+stands_if_read images disk s (Ok (Some area)) only read = stands_read images disk s area only read
+stands_if_read images disk s (Ok None) only read = tt
+stands_if_read images disk s (Err fault) only read = tt
 
 unreadable_of : (ending : Ending) (rest : List ℕ) → ending ≢ Closed → EndsIn ending rest → IsUnreadable rest
 unreadable_of Closed rest other ends = absurd (other refl)

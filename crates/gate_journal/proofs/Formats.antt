@@ -1,5 +1,5 @@
 -- What a new area is.
-use Rattle.std.proofs.Common.{◌≡◌, ℕ, ◌+◌, true, List, [], ◌++◌, length, drop, refl, sym, ◌∙◌, ap, subst, arith, append-nil}
+use Rattle.std.proofs.Common.{◌≡◌, ℕ, ◌+◌, true, false, List, [], ◌++◌, length, drop, refl, sym, ◌∙◌, ap, subst, arith, append-nil}
 use Rattle.std.specs.Prelude.{Bool, Result, Ok, Err, OnOk}
 use Rattle.std.proofs.lemmas.List.Elements.{All-nil}
 use Rattle.std.proofs.Math.ListN.{drop_of_length-le}
@@ -20,6 +20,10 @@ new_is_area = record {
   unread = λ no. grind (arith, no);
 }
 
+pub length-new : (counts : Bool) → length (new_area counts) ≡ 18
+length-new true = refl
+length-new false = refl
+
 drop_nothing : (n : ℕ) → (e : List ℕ) → e ≡ [] → drop n e ≡ []
 drop_nothing n e is = drop_of_length-le e {i = n} (rw is (omega arith))
 
@@ -27,7 +31,12 @@ pub written_new : (old new bytes : List ℕ) (counts : Bool) → old ≡ [] → 
 written_new old new bytes counts empty is same = is ∙ ap (λ (l : List ℕ). overwritten l 0 bytes) empty ∙ ap (λ (l : List ℕ). bytes ++ l) (drop_nothing (0 + length bytes) [] refl) ∙ append-nil bytes ∙ same
 
 stands_new : {D : Type 0} (images : D → List ℕ → Type 0) (disk : D) (s : List ℕ) → s ≡ new_area true → Only s (images disk) → Stands images disk new_journal []
-stands_new images disk s is only = record { counted = refl; place = refl; each = λ c now. subst (IsArea true 1 []) (sym (only c now ∙ is)) new_is_area }
+stands_new images disk s is only = record {
+  counted = refl;
+  place = refl;
+  each = λ c now. subst (IsArea true 1 []) (sym (only c now ∙ is)) new_is_area;
+  short = λ c now. omega (arith, ap length (only c now ∙ is));
+}
 
 -- an area that counts was written and synced
 pub stands_written : {D T E : Type 0} (seen : D → List ℕ) (images : D → List ℕ → Type 0) (old new : D) (bytes : List ℕ) (counts : Bool) (r : Result T E) → seen old ≡ [] → bytes ≡ new_area counts

@@ -2,25 +2,14 @@
 use Rattle.std.proofs.Common.{◌≡◌, inl, inr, ⊎_elim, ℕ, List, [], ◌∷◌, ◌∙◌, refl, sym, ap, subst, arith, append-nil}
 use Rattle.std.specs.Prelude.{Bool, Option, Result, Err}
 use Rattle.leaf_edges.specs.Disks.{Op, Torn, Follows, Unchanged, Elapses, LeavesOnly, Notes}
+use Rattle.leaf_edges.proofs.Moments.{started, goes_on}
 use Rattle.leaf_edges.specs.declared.fault.EdgeError.{EdgeError}
 use Rattle.leaf_edges.specs.declared.fault.EdgeError.TheVariants.{Failed, NoMemory}
 use Rattle.gate_journal.specs.declared.fault.AppendFault.{AppendFault}
-use Rattle.gate_journal.specs.Journals.{Does}
-use Rattle.gate_journal.specs.Walks.{Looks, MayTear, append_fault}
+use Rattle.gate_journal.specs.Journals.{Does, MayTear}
+use Rattle.gate_journal.specs.Walks.{Looks, append_fault}
 
 module _ {D : Type 0} (moment : D → ℕ) (left_since : D → ℕ → List ℕ → Type 0) (images : D → List ℕ → Type 0) where
-  -- before the first call
-  pub started : (old : D) (P : List ℕ → Type 0) → ((c : List ℕ) → left_since old (moment old) c → P c) → LeavesOnly moment left_since old old P
-  started old P here = record { later = omega arith; each = here; before = λ t c le left. inl left }
-
-  -- one call more, after which a crash leaves what has P
-  pub goes_on : (old mid new : D) (P : List ℕ → Type 0) → LeavesOnly moment left_since old mid P → Elapses moment left_since images mid new → ((c : List ℕ) → images new c → P c) → LeavesOnly moment left_since old new P
-  goes_on old mid new P so_far time here = record {
-    later = omega (arith, so_far.later, time.later);
-    each = λ c left. ⊎_elim (so_far.each c) (here c) (time.nothing_else (moment old) c so_far.later left);
-    before = λ t c le left. ⊎_elim (so_far.before t c le) (λ now. inr (here c now)) (time.nothing_else t c (omega (arith, le, so_far.later)) left);
-  }
-
   -- a run that leaves what has P, where this has Q
   pub weaker : (old new : D) (P Q : List ℕ → Type 0) → ((c : List ℕ) → P c → Q c) → LeavesOnly moment left_since old new P → LeavesOnly moment left_since old new Q
   weaker old new P Q so run = record {
@@ -40,10 +29,10 @@ module _ {D : Type 0} (moment : D → ℕ) (left_since : D → ℕ → List ℕ 
   -- a write that was tried, and a sync
   module _ (only_now : (d : D) (c : List ℕ) → left_since d (moment d) c → images d c) (place count : ℕ) where
     pub after_write : (old mid : D) → Elapses moment left_since images old mid → Follows (Torn place count) (images old) (images mid) → LeavesOnly moment left_since old mid (MayTear (images old) place count)
-    after_write old mid time crash = goes_on old old mid (MayTear (images old) place count) (started old (MayTear (images old) place count) (λ c left. inl (only_now old c left))) time (λ c now. inr (crash c now))
+    after_write old mid time crash = goes_on moment left_since images old old mid (MayTear (images old) place count) (started moment left_since images old (MayTear (images old) place count) (λ c left. inl (only_now old c left))) time (λ c now. inr (crash c now))
 
     pub after_sync : (old mid new : D) → Elapses moment left_since images old mid → Follows (Torn place count) (images old) (images mid) → Elapses moment left_since images mid new → ((c : List ℕ) → images new c → images mid c) → LeavesOnly moment left_since old new (MayTear (images old) place count)
-    after_sync old mid new time crash time2 crash2 = goes_on old mid new (MayTear (images old) place count) (after_write old mid time crash) time2 (λ c now. inr (crash c (crash2 c now)))
+    after_sync old mid new time crash time2 crash2 = goes_on moment left_since images old mid new (MayTear (images old) place count) (after_write old mid time crash) time2 (λ c now. inr (crash c (crash2 c now)))
 
 module _ {D : Type 0} (seen : D → List ℕ) (images : D → List ℕ → Type 0) (unsynced : D → Bool) (done : D → List Op) (failed : D → Option Op) (moment : D → ℕ) (left_since : D → ℕ → List ℕ → Type 0) where
   unchanged_on : (old mid new : D) → Unchanged seen images unsynced done failed old mid → Unchanged seen images unsynced done failed mid new → Unchanged seen images unsynced done failed old new

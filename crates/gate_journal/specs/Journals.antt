@@ -1,9 +1,10 @@
 -- What the calls of a journal answer, and what they do to a disk.
-use Rattle.std.specs.Prelude.{◌≡◌, ◌⊎◌, ℕ, ◌+◌, ◌≤◌, ◌<◌, Bool, true, false, cond, List, [], ◌∷◌, ◌++◌, length, take, Option, Some, None, Result, Ok, Err}
+use Rattle.std.specs.Prelude.{◌≡◌, ◌≢◌, ◌⊎◌, ℕ, ◌+◌, ◌≤◌, ◌<◌, Bool, true, false, cond, List, [], ◌∷◌, ◌++◌, length, take, Option, Some, None, Result, Ok, Err}
 use Rattle.std.specs.Int.{w32, to_le_bytes}
-use Rattle.leaf_edges.specs.Causes.{Rose}
-use Rattle.leaf_edges.specs.Disks.{Op, wrote, synced}
+use Rattle.leaf_edges.specs.Causes.{RoseByOne}
+use Rattle.leaf_edges.specs.Disks.{Op, Torn, wrote, synced}
 use Rattle.gate_journal.specs.Areas.{head, max_area, end_of, AreaState, IsArea, IsBroken, IsHeadless, Holds}
+use Rattle.gate_journal.specs.declared.area.Ending.TheVariants.{Closed}
 use Rattle.gate_journal.specs.declared.fault.LoadFault.{LoadFault}
 use Rattle.gate_journal.specs.declared.fault.LoadFault.TheVariants.{ReadFault, SyncFault, BadJournal, TooLong, NoMemory}
 use Rattle.gate_journal.specs.declared.fault.AppendFault.{AppendFault}
@@ -15,19 +16,25 @@ pub record JournalState : Type 0 where
   pub generation : ℕ
   pub end : ℕ
 
--- in every image of the disk the journal's area counts, with its generation, these bodies and the closed gate at its end
+-- in every image of the disk the journal's area counts, with its generation, these bodies and the closed gate at its end,
+-- and has no more bytes than an area may have
 pub record Stands {D : Type 0} (images : D → List ℕ → Type 0) (disk : D) (journal : JournalState) (bodies : List (List ℕ)) : Type 0 where
   pub counted : journal.counts ≡ true
   pub place : journal.end ≡ end_of bodies
   pub each : (c : List ℕ) → images disk c → IsArea true journal.generation bodies c
+  pub short : (c : List ℕ) → images disk c → length c ≤ max_area
 
--- the area with these bodies, or with one more at the end
+-- the area with these bodies, or with one more at the end, and no more bytes than an area may have
 abbrev pub IsBeforeOrAfter : ℕ → List (List ℕ) → List ℕ → List ℕ → Type 0
-IsBeforeOrAfter generation bodies body c = IsArea true generation bodies c ⊎ IsArea true generation (bodies ++ body ∷ []) c
+IsBeforeOrAfter generation bodies body c = (length c ≤ max_area) × (IsArea true generation bodies c ⊎ IsArea true generation (bodies ++ body ∷ []) c)
+
+-- an image from before, or one that a torn write made of it
+abbrev pub MayTear : (List ℕ → Type 0) → ℕ → ℕ → List ℕ → Type 0
+MayTear images place count c = images c ⊎ ((d : List ℕ) × images d × Torn place count d c)
 
 -- the journal with one more body
-abbrev pub grown : JournalState → List ℕ → JournalState
-grown journal body = record journal { end = journal.end + 5 + length body }
+abbrev pub with_body : JournalState → List ℕ → JournalState
+with_body journal body = record journal { end = journal.end + 5 + length body }
 
 -- the bytes of a record behind its gate, and the closed gate after it
 abbrev pub staged : List ℕ → List ℕ
@@ -90,16 +97,25 @@ abbrev pub ReadsArea : List ℕ → Result (Option AreaState) LoadFault → Type
 ReadsArea c (Ok (Some area)) = (length c ≤ max_area) × Holds area c
 ReadsArea c (Ok None) = (length c ≤ max_area) × IsHeadless c
 ReadsArea c (Err ReadFault) = Unit {0}
-ReadsArea c (Err SyncFault) = ⊥
+ReadsArea c (Err SyncFault) = Unit {0}
 ReadsArea c (Err (BadJournal place)) = ⊥
 ReadsArea c (Err (TooLong len)) = (max_area < length c) × (len ≡ length c)
 ReadsArea c (Err NoMemory) = Unit {0}
 
--- a fault of a load comes only where the disk's count rose, and every other answer leaves the count
+-- the journal of an area whose records end at a closed gate
+abbrev pub journal_of : AreaState → JournalState
+journal_of area = record { counts = area.counts; generation = area.generation; end = end_of area.bodies }
+
+-- the journal and the bodies of an area whose records end at a closed gate, else where they end
+abbrev pub OfArea : AreaState → Result (JournalState × List (List ℕ)) LoadFault → Type 0
+OfArea area (Ok loaded) = (area.ending ≡ Closed) × (loaded.0 ≡ journal_of area) × (loaded.1 ≡ area.bodies)
+OfArea area (Err fault) = (area.ending ≢ Closed) × (fault ≡ BadJournal (end_of area.bodies))
+
+-- a fault of a load comes only where the disk's count went up by one, and every other answer leaves the count
 abbrev pub LoadCauses : {T : Type 0} → ℕ → ℕ → Result T LoadFault → Type 0
 LoadCauses before now (Ok value) = now ≡ before
-LoadCauses before now (Err ReadFault) = Rose before now
-LoadCauses before now (Err SyncFault) = Rose before now
+LoadCauses before now (Err ReadFault) = RoseByOne before now
+LoadCauses before now (Err SyncFault) = RoseByOne before now
 LoadCauses before now (Err (BadJournal place)) = now ≡ before
 LoadCauses before now (Err (TooLong len)) = now ≡ before
 LoadCauses before now (Err NoMemory) = now ≡ before
@@ -107,7 +123,7 @@ LoadCauses before now (Err NoMemory) = now ≡ before
 -- the same where nothing is synced
 abbrev pub LookCauses : {T : Type 0} → ℕ → ℕ → Result T LoadFault → Type 0
 LookCauses before now (Ok value) = now ≡ before
-LookCauses before now (Err ReadFault) = Rose before now
+LookCauses before now (Err ReadFault) = RoseByOne before now
 LookCauses before now (Err SyncFault) = ⊥
 LookCauses before now (Err (BadJournal place)) = now ≡ before
 LookCauses before now (Err (TooLong len)) = now ≡ before
@@ -116,5 +132,5 @@ LookCauses before now (Err NoMemory) = now ≡ before
 -- the same of a write
 abbrev pub WriteFaults : {T : Type 0} → ℕ → ℕ → Result T AppendFault → Type 0
 WriteFaults before now (Ok value) = now ≡ before
-WriteFaults before now (Err DiskFault) = Rose before now
+WriteFaults before now (Err DiskFault) = RoseByOne before now
 WriteFaults before now (Err OutOfMemory) = now ≡ before

@@ -1,5 +1,6 @@
 -- What holds of areas, whatever the code does.
-use Rattle.std.specs.Prelude.{◌≡◌, ℕ, Bool, List}
+use Rattle.std.specs.Prelude.{◌≡◌, ◌↔◌, ℕ, Bool, List}
+use Rattle.gate_journal.specs.declared.area.Ending.TheVariants.{Closed}
 use Rattle.gate_journal.specs.Areas.{AreaState, IsArea, IsBroken, IsHeadless, Holds}
 
 -- bytes are an area in one way only
@@ -17,6 +18,10 @@ AreasAreWhole = (c : List ℕ) (k : Bool) (g p : ℕ) (bs : List (List ℕ)) →
 -- bytes hold one area, whole or broken
 abbrev pub AreasAreHeld : Type 0
 AreasAreHeld = (c : List ℕ) (x y : AreaState) → Holds x c → Holds y c → x ≡ y
+
+-- bytes are an area exactly where they hold it, and its records end at a closed gate
+abbrev pub AreasHoldBodies : Type 0
+AreasHoldBodies = (c : List ℕ) (k : Bool) (g : ℕ) (bs : List (List ℕ)) → IsArea k g bs c ↔ Holds (record { counts = k; generation = g; bodies = bs; ending = Closed }) c
 
 -- bytes without a head hold none
 abbrev pub HeadsAreHeld : Type 0

@@ -1,14 +1,12 @@
 -- What the parts of a load and of an append do.
-use Rattle.std.specs.Prelude.{◌≡◌, ◌≢◌, ◌⊎◌, ℕ, ◌+◌, ◌≤◌, ◌<◌, ◌^◌, ◌==◌, Bool, List, ◌++◌, length, All, Option, Some, None, Result, Ok, Err}
+use Rattle.std.specs.Prelude.{◌≡◌, ◌⊎◌, ℕ, ◌+◌, ◌≤◌, ◌<◌, ◌^◌, ◌==◌, Bool, List, ◌++◌, length, All, Option, Some, None, Result, Ok, Err}
 use Rattle.std.specs.Int.{w32, to_le_bytes}
 use Rattle.leaf_edges.specs.declared.fault.EdgeError.{EdgeError}
 use Rattle.leaf_edges.specs.declared.fault.EdgeError.TheVariants.{Failed, NoMemory as NoRoom}
-use Rattle.leaf_edges.specs.Disks.{Op, Torn, Unchanged, Elapses}
-use Rattle.gate_journal.specs.Areas.{head, block, blocks, end_of, IsBody, IsHeadless, HasBadLength, EndsIn, AreaState}
-use Rattle.gate_journal.specs.Journals.{JournalState}
-use Rattle.gate_journal.specs.declared.area.Ending.TheVariants.{Closed}
+use Rattle.leaf_edges.specs.Disks.{Op, Unchanged, Elapses}
+use Rattle.gate_journal.specs.Areas.{head, block, blocks, IsBody, IsHeadless, HasBadLength, EndsIn}
 use Rattle.gate_journal.specs.declared.fault.LoadFault.{LoadFault}
-use Rattle.gate_journal.specs.declared.fault.LoadFault.TheVariants.{ReadFault, BadJournal, NoMemory}
+use Rattle.gate_journal.specs.declared.fault.LoadFault.TheVariants.{ReadFault, NoMemory}
 use Rattle.gate_journal.specs.declared.fault.AppendFault.{AppendFault}
 use Rattle.gate_journal.specs.declared.fault.AppendFault.TheVariants.{DiskFault, NoMemory as OutOfMemory}
 use Rattle.gate_journal.specs.declared.walk.Head.{Head}
@@ -25,10 +23,6 @@ append_fault NoRoom = OutOfMemory
 pub record Looks {D : Type 0} (seen : D → List ℕ) (images : D → List ℕ → Type 0) (unsynced : D → Bool) (done : D → List Op) (failed : D → Option Op) (moment : D → ℕ) (left_since : D → ℕ → List ℕ → Type 0) (old new : D) : Type 0 where
   pub same : Unchanged seen images unsynced done failed old new
   pub time : Elapses moment left_since images old new
-
--- an image from before, or one that a torn write made of it
-abbrev pub MayTear : (List ℕ → Type 0) → ℕ → ℕ → List ℕ → Type 0
-MayTear images place count c = images c ⊎ ((d : List ℕ) × images d × Torn place count d c)
 
 -- the disk failed at a read, or there was no memory
 abbrev pub IsReadOrMemory : LoadFault → Type 0
@@ -62,8 +56,3 @@ FitsBefore place len (Err fault) = Unit {0}
 abbrev pub ReadsBodies : List ℕ → Result Walk LoadFault → Type 0
 ReadsBodies c (Ok found) = (rest : List ℕ) × (c ≡ blocks found.bodies ++ rest) × EndsIn found.ending rest × All IsBody found.bodies
 ReadsBodies c (Err fault) = IsReadOrMemory fault
-
--- the journal and the bodies of an area whose records end at a closed gate, else where they end
-abbrev pub OfArea : AreaState → Result (JournalState × List (List ℕ)) LoadFault → Type 0
-OfArea area (Ok loaded) = (area.ending ≡ Closed) × (loaded.0 ≡ record { counts = area.counts; generation = area.generation; end = end_of area.bodies }) × (loaded.1 ≡ area.bodies)
-OfArea area (Err fault) = (area.ending ≢ Closed) × (fault ≡ BadJournal (end_of area.bodies))

@@ -1,8 +1,8 @@
-ghost use Rattle.std.specs.Prelude.{◌≡◌, ◌≤◌, [], take, length};
-ghost use Rattle.leaf_edges.specs.Disks.{Unchanged, Elapses};
+ghost use Rattle.std.specs.Prelude.{◌≡◌, ◌≤◌, ◌⊎◌, [], take, length, IfOk, IfSome, IsErrOf, IsTrue};
+ghost use Rattle.leaf_edges.specs.Disks.{Only, Unchanged, Elapses, LeavesOnly};
 ghost use Rattle.gate_journal.specs.Areas.{end_of, no_area};
 ghost use Rattle.gate_journal.specs.declared.area.Ending.TheVariants.{Closed};
-ghost use Rattle.gate_journal.specs.Journals.{ReadsArea, LookCauses};
+ghost use Rattle.gate_journal.specs.Journals.{Stands, ReadsArea, Syncs, LoadCauses, LookCauses, journal_of};
 
 use crate::LoadFault;
 use crate::device::length_of;
@@ -51,13 +51,34 @@ impl Model for Area {
 }
 
 impl Area {
+    /// Syncs, and reads what a disk holds, `None` where its bytes have no head. It writes nothing, and
+    /// `BadJournal` doesn't come.
+    pub fn load<D: Disk>(alloc: Global, disk: &mut D) -> Result<Option<Area>, LoadFault>
+        ensures answer { D.tells → ReadsArea (D.seen disk.old) result }
+        // Where it counts and is whole, the journal that `Journal::of_area` makes of it stands.
+        ensures stands { D.tells → IfOk result (λ found. IfSome found (λ area. IsTrue area.counts → area.ending ≡ Closed → Stands D.images disk.new (journal_of area) area.bodies)) }
+        // But for a SyncFault the disk reads as before, and a crash leaves that alone.
+        ensures durable { D.tells → IsErrOf result LoadFault.SyncFault ⊎ ((D.seen disk.new ≡ D.seen disk.old) × Only (D.seen disk.old) (D.images disk.new)) }
+        ensures any_moment { D.tells → LeavesOnly D.moment D.left_since disk.old disk.new (D.images disk.old) }
+        ensures calls { D.tells → Syncs D.done D.failed D.unsynced disk.old disk.new result }
+        ensures cause { LoadCauses (D.faults disk.old) (D.faults disk.new) result }
+        ensures leads { D.leads disk.old disk.new }
+    {
+        match disk.sync() {
+            Ok(()) => Area::read(alloc, disk),
+            Err(_) => Err(LoadFault::SyncFault),
+        }
+    }
+
     /// Reads what a disk holds, `None` where its bytes have no head. It writes and syncs nothing, and
     /// `SyncFault` and `BadJournal` don't come.
     pub fn read<D: Disk>(alloc: Global, disk: &mut D) -> Result<Option<Area>, LoadFault>
         ensures answer { D.tells → ReadsArea (D.seen disk.old) result }
         ensures same { D.tells → Unchanged D.seen D.images D.unsynced D.done D.failed disk.old disk.new }
         ensures time { D.tells → Elapses D.moment D.left_since D.images disk.old disk.new }
+        // No answer is SyncFault.
         ensures cause { LookCauses (D.faults disk.old) (D.faults disk.new) result }
+        ensures leads { D.leads disk.old disk.new }
     {
         let len = length_of(disk)?;
         if len > MAX_LEN {

@@ -1,7 +1,7 @@
 ghost use Rattle.std.specs.Prelude.{◌≡◌, ◌+◌, ◌≤◌, [], ◌∷◌, length, take, drop, IfOk, OnOk, OnErr, IsErrOf, IfErr};
 ghost use Rattle.leaf_edges.specs.Disks.{Only, Follows, Torn, Unchanged, LeavesOnly, overwritten, wrote, synced};
-ghost use Rattle.gate_journal.specs.Journals.{Does, LookCauses, WriteFaults};
-ghost use Rattle.gate_journal.specs.Walks.{Looks, MayTear};
+ghost use Rattle.gate_journal.specs.Journals.{Does, LookCauses, MayTear, WriteFaults};
+ghost use Rattle.gate_journal.specs.Walks.{Looks};
 ghost use Rattle.gate_journal.specs.declared.fault.LoadFault.TheVariants.{ReadFault};
 
 use crate::{AppendFault, LoadFault};
@@ -13,6 +13,7 @@ pub(crate) fn length_of<D: Disk>(disk: &mut D) -> Result<u64, LoadFault>
     ensures looks { D.tells → Looks D.seen D.images D.unsynced D.done D.failed D.moment D.left_since disk.old disk.new }
     ensures kind { IfErr result (λ fault. fault ≡ ReadFault) }
     ensures cause { LookCauses (D.faults disk.old) (D.faults disk.new) result }
+    ensures leads { D.leads disk.old disk.new }
 {
     match disk.len() {
         Ok(len) => Ok(len),
@@ -27,6 +28,7 @@ pub(crate) fn fill<D: Disk>(disk: &mut D, place: u64, buf: &mut [u8]) -> Result<
     ensures looks { D.tells → Looks D.seen D.images D.unsynced D.done D.failed D.moment D.left_since disk.old disk.new }
     ensures kind { IfErr result (λ fault. fault ≡ ReadFault) }
     ensures cause { LookCauses (D.faults disk.old) (D.faults disk.new) result }
+    ensures leads { D.leads disk.old disk.new }
 {
     match disk.read(place, buf) {
         Ok(()) => Ok(()),
@@ -48,6 +50,7 @@ pub(crate) fn write_and_sync<D: Disk>(
     ensures memory { D.tells → IsErrOf result AppendFault.NoMemory → Unchanged D.seen D.images D.unsynced D.done D.failed disk.old disk.new }
     ensures calls { D.tells → Does D.done D.failed disk.old disk.new (wrote place bytes.now ∷ synced ∷ []) result }
     ensures cause { WriteFaults (D.faults disk.old) (D.faults disk.new) result }
+    ensures leads { D.leads disk.old disk.new }
 {
     disk.write_at(place, bytes)?;
     disk.sync()?;

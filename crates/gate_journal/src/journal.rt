@@ -1,8 +1,7 @@
 ghost use Rattle.std.specs.Prelude.{◌≡◌, ◌⊎◌, ◌+◌, ◌≤◌, List as Items, ℕ, [], ◌∷◌, ◌++◌, length, IfOk, IfErr, OnOk, OnErr, IsErrOf, IsTrue};
 ghost use Rattle.leaf_edges.specs.Disks.{Only, Unchanged, Elapses, LeavesOnly, wrote, synced};
 ghost use Rattle.gate_journal.specs.Areas.{max_body, max_area};
-ghost use Rattle.gate_journal.specs.Walks.{OfArea};
-ghost use Rattle.gate_journal.specs.Journals.{Stands, IsBeforeOrAfter, Reads, Syncs, Does, LoadCauses, LookCauses, WriteFaults, grown, staged, append_calls, new_area, new_journal};
+ghost use Rattle.gate_journal.specs.Journals.{Stands, IsBeforeOrAfter, MayTear, OfArea, Reads, Syncs, Does, LoadCauses, LookCauses, WriteFaults, with_body, staged, append_calls, new_area, new_journal};
 ghost use Rattle.gate_journal.specs.declared.fault.AppendFault.TheVariants.{NoMemory as OutOfMemory};
 
 use crate::device::write_and_sync;
@@ -67,15 +66,20 @@ fn stage(buf: &mut Vec<u8>, body: &[u8]) -> Result<(), AppendFault>
 
 impl Journal {
     /// Makes the area of an empty disk, and syncs: one that counts has generation 1, the other
-    /// generation 0, and neither has bodies. At `NoMemory` nothing was written.
+    /// generation 0, and neither has bodies. At `NoMemory` nothing was written; after `DiskFault` the
+    /// area may be there, a part of it, or other bytes.
     pub fn format<D: Disk>(alloc: Global, disk: &mut D, counts: bool) -> Result<(), AppendFault>
         requires empty { D.tells → D.seen disk.old ≡ [] }
         ensures area { D.tells → OnOk result (D.seen disk.new ≡ new_area counts) }
         ensures durable { D.tells → OnOk result (Only (new_area counts) (D.images disk.new)) }
         ensures stands { D.tells → OnOk result (IsTrue counts → Stands D.images disk.new new_journal []) }
+        // At each moment of the call a crash leaves an image from before, or what a torn write of the 18
+        // bytes made of one.
+        ensures any_moment { D.tells → LeavesOnly D.moment D.left_since disk.old disk.new (MayTear (D.images disk.old) 0 18) }
         ensures memory { D.tells → IsErrOf result AppendFault.NoMemory → Unchanged D.seen D.images D.unsynced D.done D.failed disk.old disk.new }
         ensures calls { D.tells → Does D.done D.failed disk.old disk.new (wrote 0 (new_area counts) ∷ synced ∷ []) result }
         ensures cause { WriteFaults (D.faults disk.old) (D.faults disk.new) result }
+        ensures leads { D.leads disk.old disk.new }
     {
         let area = area_bytes(alloc, counts)?;
         write_and_sync(disk, 0, &area)
@@ -90,10 +94,11 @@ impl Journal {
         ensures any_moment { D.tells → LeavesOnly D.moment D.left_since disk.old disk.new (D.images disk.old) }
         ensures calls { D.tells → Syncs D.done D.failed D.unsynced disk.old disk.new result }
         ensures cause { LoadCauses (D.faults disk.old) (D.faults disk.new) result }
+        ensures leads { D.leads disk.old disk.new }
     {
-        match disk.sync() {
-            Ok(()) => Journal::read_only(alloc, disk),
-            Err(_) => Err(LoadFault::SyncFault),
+        match Area::load(alloc, disk)? {
+            Some(area) => Journal::of_area(alloc, area),
+            None => Err(LoadFault::BadJournal { place: 0 }),
         }
     }
 
@@ -107,6 +112,7 @@ impl Journal {
         ensures time { D.tells → Elapses D.moment D.left_since D.images disk.old disk.new }
         // No answer is SyncFault.
         ensures cause { LookCauses (D.faults disk.old) (D.faults disk.new) result }
+        ensures leads { D.leads disk.old disk.new }
     {
         match Area::read(alloc, disk)? {
             Some(area) => Journal::of_area(alloc, area),
@@ -114,8 +120,9 @@ impl Journal {
         }
     }
 
-    /// The journal of an area whose records end at a closed gate.
-    fn of_area(alloc: Global, area: Area) -> Result<(Journal, List<Bytes>), LoadFault>
+    /// The journal and the bodies of an area whose records end at a closed gate. Of any other area it is
+    /// `BadJournal`, at the place where the records end, and no other fault comes.
+    pub fn of_area(alloc: Global, area: Area) -> Result<(Journal, List<Bytes>), LoadFault>
         ensures answer { OfArea area result }
     {
         if area.ending() != Ending::Closed {
@@ -146,10 +153,11 @@ impl Journal {
             OnOk result (Stands D.images disk.new self.new (bodies ++ body.now ∷ [])) }
         ensures memory { (bodies : Items (Items ℕ)) → D.tells → Stands D.images disk.old self.old bodies →
             IsErrOf result AppendFault.NoMemory → Stands D.images disk.new self.new bodies }
-        ensures grows { OnOk result (self.new ≡ grown self.old body.now) }
+        ensures grows { OnOk result (self.new ≡ with_body self.old body.now) }
         ensures journal { OnErr result (self.new ≡ self.old) }
         ensures calls { D.tells → Does D.done D.failed disk.old disk.new (append_calls self.old.end body.now) result }
         ensures cause { WriteFaults (D.faults disk.old) (D.faults disk.new) result }
+        ensures leads { D.leads disk.old disk.new }
     {
         stage(&mut self.buf, body)?;
         write_and_sync(disk, self.end + 1, &self.buf)?;

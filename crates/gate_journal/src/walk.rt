@@ -75,6 +75,7 @@ pub(crate) fn read_head<D: Disk>(disk: &mut D, len: u64) -> Result<Option<Head>,
     ensures long { IfOk result (λ found. IfSome found (λ _. 18 ≤ len)) }
     ensures looks { D.tells → Looks D.seen D.images D.unsynced D.done D.failed D.moment D.left_since disk.old disk.new }
     ensures cause { LookCauses (D.faults disk.old) (D.faults disk.new) result }
+    ensures leads { D.leads disk.old disk.new }
 {
     // A gate follows the head in every area.
     if len <= HEAD_LEN {
@@ -107,6 +108,7 @@ fn read_record<D: Disk>(
     ensures fits { IfOk result (λ found. IfSome found (λ body. place + 5 + length body ≤ len)) }
     ensures looks { D.tells → Looks D.seen D.images D.unsynced D.done D.failed D.moment D.left_since disk.old disk.new }
     ensures cause { LookCauses (D.faults disk.old) (D.faults disk.new) result }
+    ensures leads { D.leads disk.old disk.new }
 {
     let rest = len - place;
     if rest < RECORD_HEAD_LEN {
@@ -132,6 +134,7 @@ fn next_body<D: Disk>(alloc: Global, disk: &mut D, place: u64, len: u64) -> Resu
     ensures fits { FitsBefore place len result }
     ensures looks { D.tells → Looks D.seen D.images D.unsynced D.done D.failed D.moment D.left_since disk.old disk.new }
     ensures cause { LookCauses (D.faults disk.old) (D.faults disk.new) result }
+    ensures leads { D.leads disk.old disk.new }
 {
     if place == len {
         return Ok(Next::End(Ending::Missing));
@@ -156,6 +159,7 @@ pub(crate) fn read_bodies<D: Disk>(alloc: Global, disk: &mut D, len: u64) -> Res
     ensures end { IfOk result (λ found. found.end ≡ end_of found.bodies) }
     ensures looks { D.tells → Looks D.seen D.images D.unsynced D.done D.failed D.moment D.left_since disk.old disk.new }
     ensures cause { LookCauses (D.faults disk.old) (D.faults disk.new) result }
+    ensures leads { D.leads disk.old disk.new }
 {
     let mut bodies = List::new(alloc);
     let mut place = HEAD_LEN;

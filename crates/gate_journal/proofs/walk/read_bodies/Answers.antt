@@ -25,6 +25,7 @@ loop-bodies-preserved g c =
     record {
       within = search rules;
       same = search rules;
+      leads = g.met.D.Disk.leads_on d0 d1 d2 inv.leads c.next_body.ensures.leads;
       looks = λ tells. looks_on D.seen D.images D.unsynced D.done D.failed D.moment D.left_since d0 d1 d2 (inv.looks tells) (c.next_body.ensures.looks tells);
       place_is = omega (arith, inv.place_is, end-push bodies body, ap end_of pushed, c.len.ensures);
       legal = λ tells. subst (All IsBody) (sym pushed) (All-append IsBody bodies (body ∷ []) (inv.legal tells) (All-cons IsBody body [] (found tells).2 (All-nil IsBody)));

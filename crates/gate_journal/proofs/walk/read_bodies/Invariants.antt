@@ -8,6 +8,7 @@ abbrev pub invariant-loop-bodies : goal.invariant-loop-bodies
 invariant-loop-bodies g l = record {
   within : l.place ≤ l.len;
   same : g.D.Disk.faults l.disk ≡ g.D.Disk.faults l.fn.disk;
+  leads : g.D.Disk.leads l.fn.disk l.disk;
   looks : g.D.Disk.tells → Looks g.D.Disk.seen g.D.Disk.images g.D.Disk.unsynced g.D.Disk.done g.D.Disk.failed g.D.Disk.moment g.D.Disk.left_since l.fn.disk l.disk;
   place_is : l.place ≡ end_of l.bodies;
   legal : g.D.Disk.tells → All IsBody l.bodies;

@@ -1,13 +1,14 @@
 -- The lines of a block, one at a time.
-use Rattle.std.proofs.Common.{◌≡◌, ℕ, ◌+◌, ◌-◌, List, [], ◌∷◌, ◌++◌, length, Bool, true, false, cond, eqb, Option, Some, Result, Ok, Err, refl, ap, ◌∙◌, subst, append_assoc, arith}
+use Rattle.std.proofs.Common.{◌≡◌, ℕ, ◌+◌, ◌-◌, List, [], ◌∷◌, ◌++◌, length, Bool, true, false, cond, eqb, Option, None, Some, Result, Ok, Err, refl, sym, ap, ◌∙◌, subst, append_assoc, arith}
 use Rattle.std.proofs.lemmas.Bool.{true≢false}
-use Rattle.std.specs.Option.{option_and_then}
-use Rattle.std.specs.Result.{IfOk}
+use Rattle.std.specs.Borrow.{Bor}
+use Rattle.std.specs.Option.{option_map, option_copied, option_and_then, is_some}
+use Rattle.std.specs.Result.{IfOk, is_ok, result_err}
 use Rattle.nats_text.specs.declared.headers.Pair.{Pair}
 use Rattle.nats_text.specs.Pieces.{onto_first, pieces}
 use Rattle.nats_text.specs.declared.fault.TextFault.{TextFault}
 use Rattle.nats_text.specs.declared.fault.TextFault.TheVariants.{Bad, NoMemory}
-use Rattle.nats_text.specs.Headers.{HeaderBlock, line_text, status_of, entry_of, is_end, with_front, read_entry, read_pairs, with_status, read_lines, read_block, Reads}
+use Rattle.nats_text.specs.Headers.{HeaderBlock, line_text, status_of, entry_of, is_end, with_front, read_entry, read_pairs, with_status, read_lines, read_block, pair_view, Reads}
 use Rattle.nats_text.proofs.Tokens.{HasFirst, pieces_first}
 use Rattle.nats_text.proofs.Lines.{length-cut}
 
@@ -61,3 +62,28 @@ reads_only r read x h e = subst (λ q. Reads (λ y. y) r q) e h
 
 pub reads_bad : {T : Type 0} (r : Result T TextFault) (read : Result T ℕ) (place : ℕ) → Reads (λ y. y) r read → r ≡ Err (Bad place) → read ≡ Err place
 reads_bad {T} r read place h e = let P : Result T TextFault → Type 0 = λ q. Reads (λ y. y) q read in subst P e h
+
+pub reads_legal : {T : Type 0} (read : Result T ℕ) (P : T → Type 0) → is_ok read ≡ true → ((x : T) → read ≡ Ok x → P x) → (x : T) × P x
+reads_legal (Ok x) P h f = (x, f x refl)
+reads_legal (Err place) P h f = absurd (true≢false (sym h))
+
+-- ---- the first bad line alone
+
+with_front-err : (front : List Pair) (read : Result (List Pair) ℕ) → result_err (with_front front read) ≡ result_err read
+with_front-err front (Ok pairs) = refl
+with_front-err front (Err place) = refl
+
+pub bad_behind_pair : (place next : ℕ) (entry : Option (Bor (List ℕ) × Bor (List ℕ))) (lines : List (List ℕ)) (read : Result (List Pair) ℕ) → is_some entry ≡ true
+    → result_err (read_entry place next (Some (option_map pair_view entry)) lines read) ≡ result_err read
+bad_behind_pair place next None lines read h = absurd (true≢false (sym h))
+bad_behind_pair place next (Some p) lines read h = with_front-err (pair_view p ∷ []) read
+
+pub bad_behind_end : (place next : ℕ) (entry : Option (Bor (List ℕ) × Bor (List ℕ))) (lines : List (List ℕ)) (read : Result (List Pair) ℕ) → is_some entry ≡ false → is_end lines ≡ false
+    → result_err (read_entry place next (Some (option_map pair_view entry)) lines read) ≡ Some next
+bad_behind_end place next None lines read h more = rw more refl
+bad_behind_end place next (Some p) lines read h more = absurd (true≢false h)
+
+pub bad_behind_status : (status : Option (Option (Bor (List ℕ)))) (read : Result (List Pair) ℕ) → is_some status ≡ true → result_err (with_status (option_map option_copied status) read) ≡ result_err read
+bad_behind_status None read h = absurd (true≢false (sym h))
+bad_behind_status (Some status) (Ok pairs) h = refl
+bad_behind_status (Some status) (Err place) h = refl

@@ -262,6 +262,11 @@ read_block (b ∷ bs) = read_lines (pieces 10 (b ∷ bs))
 abbrev pub pair_view : Bor (List ℕ) × Bor (List ℕ) → Pair
 pair_view p = record { name = p.0.now; value = p.1.now }
 
+-- bytes are bad where they should be, unless there was no memory
+abbrev pub IsFaultOf : {V : Type 0} → TextFault → Result V ℕ → Type 0
+IsFaultOf (Bad place) read = read ≡ Err place
+IsFaultOf NoMemory read = Unit {0}
+
 -- a reading gave what it should, seen by view, unless there was no memory
 abbrev pub Reads : {T V : Type 0} → (T → V) → Result T TextFault → Result V ℕ → Type 0
 Reads view (Ok x) read = read ≡ Ok (view x)

@@ -1,7 +1,9 @@
-ghost use Rattle.std.specs.Prelude.{◌≡◌, ◌<◌, ◌==◌, length, IfSome};
+ghost use Rattle.std.specs.Prelude.{◌≡◌, ◌<◌, ◌+◌, ◌^◌, ◌==◌, length, IfSome};
 ghost use Rattle.std.specs.List.{list_all, position_from};
 ghost use Rattle.std.specs.Option.{option_copied, option_map, option_and_then};
-ghost use Rattle.nats_text.specs.Headers.{is_header_name, is_header_byte, is_header_value, is_line_text, is_blank, trimmed, trim_start, trim_end, line_text, status_of, pair_of, entry_of, pair_view};
+ghost use Rattle.std.specs.Result.{result_err};
+ghost use Rattle.nats_text.specs.Headers.{is_header_name, is_header_byte, is_header_value, is_line_text, is_blank, trimmed, trim_start, trim_end, line_text, status_of, pair_of, entry_of, pair_view, read_pairs, read_block};
+ghost use Rattle.nats_text.specs.Pieces.{pieces};
 
 use crate::cut;
 
@@ -57,6 +59,42 @@ fn pair_of(text: &[u8]) -> Option<(&[u8], &[u8])>
     } else {
         None
     }
+}
+
+// The place of the first bad line of a block, or of what is cut, missing or too much. It takes no
+// memory.
+pub(crate) fn bad_line(block: &[u8]) -> Option<usize>
+    ensures { result ≡ result_err (read_block block.now) }
+{
+    if block.is_empty() {
+        return None;
+    }
+    let Some((line, lines)) = cut(block, b'\n') else {
+        return Some(0);
+    };
+    if status_of_line(line).is_none() {
+        return Some(0);
+    }
+    bad_pair_line(block.len() - lines.len(), lines)
+}
+
+// The same among the lines of the pairs, from a place on.
+fn bad_pair_line(mut place: usize, lines: &[u8]) -> Option<usize>
+    requires { place + length lines.now < 2 ^ 64 }
+    ensures { result ≡ result_err (read_pairs place (pieces 10 lines.now)) }
+{
+    let mut rest = lines;
+    while let Some((line, behind)) = cut(rest, b'\n') {
+        let Some(entry) = entry_of_line(line) else {
+            return Some(place);
+        };
+        place += rest.len() - behind.len();
+        if entry.is_none() {
+            return if behind.is_empty() { None } else { Some(place) };
+        }
+        rest = behind;
+    }
+    Some(place)
 }
 
 fn place_of_colon(text: &[u8]) -> Option<usize>

@@ -1,9 +1,12 @@
 ghost use Rattle.std.specs.Prelude.{◌≡◌, ◌<◌, ◌≤◌, ◌+◌, ◌-◌, ◌^◌, length, min, ℕ, [], ◌++◌, IsTrue, IfOk, OnOk, OnErr, vec_len, vec_capacity};
 ghost use Rattle.std.specs.Option.{option_copied};
+ghost use Rattle.std.specs.Result.{is_ok};
 ghost use Rattle.nats_text.specs.Pieces.{pieces};
-ghost use Rattle.nats_text.specs.Headers.{HeaderBlock, IsBlock, IsFirstBadLine, is_header_block, no_headers, has_none, legal, written, first_value, has_name, with_pair, with_value, without, other_pairs, is_named, Reads, read_block, read_pairs};
+ghost use Rattle.nats_text.specs.Headers.{HeaderBlock, IsBlock, IsFirstBadLine, is_header_block, no_headers, has_none, legal, written, first_value, has_name, with_pair, with_value, without, other_pairs, is_named, Reads, IsFaultOf, read_block, read_pairs};
 
-use crate::header_lines::{entry_of_line, is_header_name, is_header_value, status_of_line};
+use crate::header_lines::{
+    bad_line, entry_of_line, is_header_name, is_header_value, status_of_line,
+};
 use crate::header_writer::{append_lines, lines_len};
 use crate::{Bytes, NoMemory, TextFault, cut};
 use std::alloc::Global;
@@ -64,7 +67,7 @@ impl Headers {
     ///
     /// `Bad` comes exactly where the bytes are no such block. Its place is that of the first byte of
     /// the first bad line; of the line that is cut or missing where the block ends too early; and of
-    /// what stands behind the empty line.
+    /// what stands behind the empty line. `NoMemory` comes only where the bytes are such a block.
     pub fn read(alloc: Global, block: &[u8]) -> Result<Headers, TextFault>
         ensures exact { Reads (λ headers. headers) result (read_block block.now) }
         ensures found { IfOk result (λ headers. IsBlock block.now headers) }
@@ -72,6 +75,7 @@ impl Headers {
 
         // A block is read, unless there is no memory.
         ensures only { (headers : HeaderBlock) → IsBlock block.now headers → Reads (λ it. it) result (Ok headers) }
+        ensures memory { result ≡ Err TextFault.NoMemory → (headers : HeaderBlock) × IsBlock block.now headers }
     {
         read_block(alloc, block)
     }
@@ -186,6 +190,27 @@ impl Headers {
 }
 
 fn read_block(alloc: Global, block: &[u8]) -> Result<Headers, TextFault>
+    ensures exact { Reads (λ headers. headers) result (read_block block.now) }
+    ensures memory { result ≡ Err TextFault.NoMemory → IsTrue (is_ok (read_block block.now)) }
+{
+    match copied_block(alloc, block) {
+        Err(TextFault::NoMemory) => Err(fault_without_memory(block)),
+        read => read,
+    }
+}
+
+// The first bad line counts before the want of memory, wherever the memory ended.
+fn fault_without_memory(block: &[u8]) -> TextFault
+    ensures exact { IsFaultOf result (read_block block.now) }
+    ensures memory { result ≡ TextFault.NoMemory → IsTrue (is_ok (read_block block.now)) }
+{
+    match bad_line(block) {
+        Some(place) => bad_at(place),
+        None => TextFault::NoMemory,
+    }
+}
+
+fn copied_block(alloc: Global, block: &[u8]) -> Result<Headers, TextFault>
     ensures { Reads (λ headers. headers) result (read_block block.now) }
 {
     if block.is_empty() {

@@ -45,12 +45,13 @@ impl PartialEq for Name {
 
 impl Name {
     /// Reads a name. `Bad` comes exactly where the bytes are none, with the place where they stop being
-    /// one. Memory is taken for a name alone.
+    /// one. Memory is taken for a name alone, so that `NoMemory` comes only where the bytes are one.
     pub fn read(alloc: Global, bytes: &[u8]) -> Result<Name, TextFault>
         ensures value { IfOk result (λ name. name ≡ bytes.now) }
         ensures legal { IfOk result (λ _. IsTrue (is_name bytes.now)) }
         ensures bad { (place : ℕ) → result ≡ Err (TextFault.Bad place) → is_name bytes.now ≡ false }
         ensures place { (place : ℕ) → result ≡ Err (TextFault.Bad place) → IsBadPlace is_name bytes.now place }
+        ensures memory { result ≡ Err TextFault.NoMemory → IsTrue (is_name bytes.now) }
     {
         if let Some(place) = bad_place(bytes) {
             return Err(TextFault::Bad {

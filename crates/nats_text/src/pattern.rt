@@ -42,12 +42,13 @@ impl PartialEq for Pattern {
 
 impl Pattern {
     /// Reads a pattern. `Bad` comes exactly where the bytes are none, with the place where they stop being
-    /// one. Memory is taken for a pattern alone.
+    /// one. Memory is taken for a pattern alone, so that `NoMemory` comes only where the bytes are one.
     pub fn read(alloc: Global, bytes: &[u8]) -> Result<Pattern, TextFault>
         ensures value { IfOk result (λ pattern. pattern ≡ bytes.now) }
         ensures legal { IfOk result (λ _. IsTrue (is_pattern bytes.now)) }
         ensures bad { (place : ℕ) → result ≡ Err (TextFault.Bad place) → is_pattern bytes.now ≡ false }
         ensures place { (place : ℕ) → result ≡ Err (TextFault.Bad place) → IsBadPlace is_pattern bytes.now place }
+        ensures memory { result ≡ Err TextFault.NoMemory → IsTrue (is_pattern bytes.now) }
     {
         if let Some(place) = bad_place(Kind::Pattern, bytes) {
             return Err(TextFault::Bad {

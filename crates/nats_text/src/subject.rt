@@ -42,12 +42,13 @@ impl PartialEq for Subject {
 
 impl Subject {
     /// Reads a subject. `Bad` comes exactly where the bytes are none, with the place where they stop being
-    /// one. Memory is taken for a subject alone.
+    /// one. Memory is taken for a subject alone, so that `NoMemory` comes only where the bytes are one.
     pub fn read(alloc: Global, bytes: &[u8]) -> Result<Subject, TextFault>
         ensures value { IfOk result (λ subject. subject ≡ bytes.now) }
         ensures legal { IfOk result (λ _. IsTrue (is_subject bytes.now)) }
         ensures bad { (place : ℕ) → result ≡ Err (TextFault.Bad place) → is_subject bytes.now ≡ false }
         ensures place { (place : ℕ) → result ≡ Err (TextFault.Bad place) → IsBadPlace is_subject bytes.now place }
+        ensures memory { result ≡ Err TextFault.NoMemory → IsTrue (is_subject bytes.now) }
     {
         if let Some(place) = bad_place(Kind::Subject, bytes) {
             return Err(TextFault::Bad {

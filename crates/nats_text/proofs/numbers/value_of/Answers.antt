@@ -1,4 +1,4 @@
-use Rattle.std.proofs.Common.{◌≡◌, ap, sym, ◌∙◌, ◌∷◌, drop, slice_index_or, arith, ◌≤◌, ◌+◌, ◌-◌, ◌*◌, ◌^◌}
+use Rattle.std.proofs.Common.{sym, ◌∙◌, drop, slice_index_or, ◌+◌}
 use Rattle.nats_text.specs.Numbers.{number_after}
 use Rattle.std.proofs.lemmas.List.{at_drop_more}
 use Rattle.nats_text.proofs.Digits.{too_large}

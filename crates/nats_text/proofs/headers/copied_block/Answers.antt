@@ -6,7 +6,7 @@ use Rattle.nats_text.specs.Pieces.{pieces}
 use Rattle.nats_text.specs.Headers.{HeaderBlock, line_text, status_of, read_pairs, with_status, read_block}
 use Rattle.nats_text.proofs.Reading.{read_block-cut, fault_of_pairs}
 use Rattle.nats_text.proofs.ReadsBlocks.{read_block-ok}
-use Rattle.nats_text.proofs.headers.read_block.Goals as goal
+use Rattle.nats_text.proofs.headers.copied_block.Goals as goal
 
 pub returns-in_err-pairs : goal.returns-in_err-pairs
 returns-in_err-pairs c =

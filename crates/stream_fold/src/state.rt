@@ -203,6 +203,7 @@ impl StreamState {
     /// of the sizes would pass `2^64 - 1`. An error leaves the room that was made for another entry.
     pub fn reserve_for(&mut self, entry: &Entry) -> Result<(), NoMemory>
         ensures held { self.new.held ≡ self.old.held }
+        ensures history { (h : History) → StandsFor self.old h → StandsFor self.new h }
         ensures ok { OnOk result (HasRoom self.new entry.now) }
         ensures err { OnErr result ((other : Entry) → HasRoom self.old other → HasRoom self.new other) }
     {

@@ -4,7 +4,7 @@ use Rattle.std.specs.Prelude.{unwrap_or, cond, is_some, IsErrOf, if◌then◌els
 use Rattle.leaf_edges.specs.declared.fault.EdgeError.{EdgeError}
 use Rattle.leaf_edges.specs.declared.fault.EdgeError.TheVariants.{Failed, NoMemory}
 use Rattle.leaf_edges.specs.Memory.{risen}
-use Rattle.leaf_edges.specs.Causes.{Causes, Rose}
+use Rattle.leaf_edges.specs.Causes.{CausesOne, RoseByOne}
 use Rattle.leaf_edges.specs.Disks.{Op, wrote, cut_to, synced, overwritten, Torn, Cut, Follows, Only, Unchanged, Elapses, Notes, NotesSync}
 use Rattle.mem_disk.specs.declared.fate.Fate.{Fate}
 use Rattle.mem_disk.specs.declared.fate.Fate.TheVariants.{Lost, All, Torn as TornFate}
@@ -13,6 +13,7 @@ use Rattle.mem_disk.specs.ReachLemmas.{reaches_none, reaches_all, reaches_torn}
 use Rattle.mem_disk.specs.StepLemmas.{takes_none}
 use Rattle.mem_disk.specs.MemDisks.{Past, DiskState, crash_content, crash_image, past_seen, PastImages, past_unsynced, disk_seen, disk_images, disk_moment, disk_left_since, disk_unsynced, disk_done, disk_failed, IsSound, refuses, failed_at, stopped_at, done_with, burnt, counted, faulted, write_answer, cut_answer, sync_answer, look_answer, Answers, AnswersOrNot}
 use Rattle.mem_disk.specs.DiskLaws.{past_seen_is_image, past_synced_is_only}
+use Rattle.mem_disk.proofs.Soundness.{idle_past}
 use Rattle.mem_disk.proofs.Pasts.{PastElapses, still, time_more, seen_more, dirt_more, images_more, images_tried, time_tried, seen_synced, only_synced, clean_synced}
 
 abbrev pub Untouched : DiskState → DiskState → Type 0
@@ -24,11 +25,6 @@ Passes old new = Elapses disk_moment disk_left_since disk_images old new
 abbrev pub Step : Type 1
 Step = DiskState → Result (Unit {0}) EdgeError → Type 0
 
--- it isn't stopped where it refuses nothing
-running : (a b : Bool) → (a || b) ≡ false → a ≡ false
-running true b e = e
-running false b e = refl
-
 negated_true : (b : Bool) → not b ≡ true → b ≡ false
 negated_true true e = sym e
 negated_true false e = refl
@@ -36,9 +32,6 @@ negated_true false e = refl
 negated_false : (b : Bool) → not b ≡ false → b ≡ true
 negated_false true e = refl
 negated_false false e = sym e
-
-pub idle_past : (d : DiskState) → IsSound d → refuses d ≡ false → d.past.tried ≡ None
-idle_past d sound open_ = sound.idle (running (is_some d.stopped) _ open_)
 
 passes : (old new : DiskState) → PastElapses old.past new.past → Passes old new
 passes old new h = record { later = h.later; nothing_else = h.nothing_else; keeps = h.keeps }
@@ -56,8 +49,8 @@ untouched old new e f = record {
   last = f;
 }
 
-rises : (n : ℕ) → n ≤ 2 ^ 64 - 1 → Rose n (risen n)
-rises n fits = (omega (arith, fits), omega arith)
+rises : (n : ℕ) → n ≤ 2 ^ 64 - 1 → RoseByOne n (risen n)
+rises n fits = omega (arith, fits)
 
 -- ---- a write
 
@@ -110,8 +103,8 @@ module _ (place : ℕ) (bytes : List ℕ) (old new : DiskState) (result : Result
       (λ is. passes old (stopped_at (wrote place bytes) (Some (wrote place bytes)) old) (time_tried old.past (wrote place bytes) (idle_past old idle is)))
       (λ is. passes old (burnt (done_with (wrote place bytes) old)) (time_more old.past (wrote place bytes) (idle_past old idle is)))
 
-  pub write_cause : Causes old.fault_count new.fault_count result
-  write_cause = write_ends (wrote place bytes) old new result (λ d r. Causes old.fault_count d.fault_count r) h refl (rises old.fault_count (omega (arith, idle.range))) (λ is. rises old.fault_count (omega (arith, idle.range))) (λ is. refl)
+  pub write_cause : CausesOne old.fault_count new.fault_count result
+  write_cause = write_ends (wrote place bytes) old new result (λ d r. CausesOne old.fault_count d.fault_count r) h refl (rises old.fault_count (omega (arith, idle.range))) (λ is. rises old.fault_count (omega (arith, idle.range))) (λ is. refl)
 
 -- ---- a cut
 
@@ -153,8 +146,8 @@ module _ (len : ℕ) (old new : DiskState) (result : Result (Unit {0}) EdgeError
       (same_past old old refl) (same_past old (failed_at (cut_to len) old) refl)
       (λ is. passes old (done_with (cut_to len) old) (time_more old.past (cut_to len) (idle_past old idle is)))
 
-  pub cut_cause : Causes old.fault_count new.fault_count result
-  cut_cause = cut_ends (cut_to len) old new result (λ d r. Causes old.fault_count d.fault_count r) h refl (rises old.fault_count (omega (arith, idle.range))) (λ is. refl)
+  pub cut_cause : CausesOne old.fault_count new.fault_count result
+  cut_cause = cut_ends (cut_to len) old new result (λ d r. CausesOne old.fault_count d.fault_count r) h refl (rises old.fault_count (omega (arith, idle.range))) (λ is. refl)
 
 -- ---- a sync
 
@@ -209,8 +202,8 @@ module _ (old new : DiskState) (result : Result (Unit {0}) EdgeError) (idle : Is
       (λ is. same_past old (stopped_at synced None old) (untried is))
       (λ is dirt. passes old (burnt (done_with synced old)) (time_more old.past synced (idle_past old idle is)))
 
-  pub sync_cause : Causes old.fault_count new.fault_count result
-  sync_cause = sync_ends old new result (λ d r. Causes old.fault_count d.fault_count r) h (rises old.fault_count (omega (arith, idle.range))) (λ clean. refl) (λ is. rises old.fault_count (omega (arith, idle.range))) (λ is dirt. refl)
+  pub sync_cause : CausesOne old.fault_count new.fault_count result
+  sync_cause = sync_ends old new result (λ d r. CausesOne old.fault_count d.fault_count r) h (rises old.fault_count (omega (arith, idle.range))) (λ clean. refl) (λ is. rises old.fault_count (omega (arith, idle.range))) (λ is dirt. refl)
 
 -- ---- a length or a read
 
@@ -232,8 +225,8 @@ module _ {T : Type 0} (old new : DiskState) (result : Result T EdgeError) (idle 
   pub look_memory : IsErrOf result NoMemory → ⊥
   look_memory = look_by old new (refuses old) result (λ d r. IsErrOf r NoMemory → ⊥) (λ e. cc) (λ v e. cc) h
 
-  pub look_cause : Causes old.fault_count new.fault_count result
-  look_cause = look_by old new (refuses old) result (λ d r. Causes old.fault_count d.fault_count r) (rises old.fault_count (omega (arith, idle.range))) (λ v. refl) h
+  pub look_cause : CausesOne old.fault_count new.fault_count result
+  look_cause = look_by old new (refuses old) result (λ d r. CausesOne old.fault_count d.fault_count r) (rises old.fault_count (omega (arith, idle.range))) (λ v. refl) h
 
 -- ---- a stop
 

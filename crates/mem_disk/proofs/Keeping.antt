@@ -11,22 +11,22 @@ use Rattle.mem_disk.specs.declared.entry.Entry.{Entry}
 use Rattle.mem_disk.specs.declared.entry.Entry.TheVariants.{Sync}
 use Rattle.mem_disk.specs.declared.history.History.TheInside.{Inside}
 use Rattle.leaf_edges.specs.Disks.{Op, wrote, cut_to, synced}
-use Rattle.mem_disk.specs.Contents.{Content, after_op, after_ops, settled, seen_in, grown, grown_by}
+use Rattle.mem_disk.specs.Contents.{Content, after_op, after_ops, settled, seen_in, after_call, after_calls}
 use Rattle.mem_disk.specs.Entries.{op_of, ops_of, first_bytes, EndsWithin}
 use Rattle.mem_disk.specs.Histories.{past_of, IsKept}
 use Rattle.mem_disk.specs.MemDisks.{content_of, with_tried, has_some, past_seen, past_unsynced, IsChange}
 use Rattle.mem_disk.specs.DiskLaws.{has_some-push}
-use Rattle.mem_disk.proofs.OpLists.{after_ops-push, grown_by-push}
+use Rattle.mem_disk.proofs.OpLists.{after_ops-push, after_calls-push}
 
-seen-grown : (c : Content) (op : Op) → seen_in (grown c op) ≡ after_op (seen_in c) op
-seen-grown c (wrote place bytes) = after_ops-push c.base c.since (wrote place bytes)
-seen-grown c (cut_to len) = after_ops-push c.base c.since (cut_to len)
-seen-grown c synced = refl
+seen-after_call : (c : Content) (op : Op) → seen_in (after_call c op) ≡ after_op (seen_in c) op
+seen-after_call c (wrote place bytes) = after_ops-push c.base c.since (wrote place bytes)
+seen-after_call c (cut_to len) = after_ops-push c.base c.since (cut_to len)
+seen-after_call c synced = refl
 
 -- what a read gives is what the calls make of the first bytes
-pub seen-grown_by : (c : Content) (ops : List Op) → seen_in (grown_by c ops) ≡ after_ops (seen_in c) ops
-seen-grown_by c [] = refl
-seen-grown_by c (op ∷ ops) = seen-grown_by (grown c op) ops ∙ ap (λ (b : List ℕ). after_ops b ops) (seen-grown c op)
+pub seen-after_calls : (c : Content) (ops : List Op) → seen_in (after_calls c ops) ≡ after_ops (seen_in c) ops
+seen-after_calls c [] = refl
+seen-after_calls c (op ∷ ops) = seen-after_calls (after_call c op) ops ∙ ap (λ (b : List ℕ). after_ops b ops) (seen-after_call c op)
 
 pub lt_true : (a b : ℕ) → a < b → nat_lt a b ≡ true
 lt_true a b below = grind (arith, nat_tests)
@@ -79,7 +79,7 @@ untried (Some entry) none = absurd (cc)
 
 module _ (h : Inside) (kept : IsKept h) where
   pub kept_seen : past_seen (past_of h) ≡ h.bytes.items
-  kept_seen = seen-grown_by (settled (past_of h).first) (past_of h).done ∙ kept.seen
+  kept_seen = seen-after_calls (settled (past_of h).first) (past_of h).done ∙ kept.seen
 
   pub kept_unsynced : past_unsynced (past_of h) ≡ (nat_lt h.synced (length h.entries.items) || is_some h.tried)
   kept_unsynced =
@@ -113,7 +113,7 @@ module _ (h : Inside) (kept : IsKept h) (bytes first : Vec ℕ Global) (entries 
   first_more : first_bytes entries.items first.items bytes.items ≡ (past_of h).first
   first_more = ap (λ (l : List Entry). first_bytes l first.items bytes.items) more ∙ first_bytes-push h.entries.items entry first.items bytes.items ∙ same
 
-  grows : (c : Content) (op : Op) → IsChange op → grown c op ≡ record { base = c.base; since = c.since ++ op ∷ [] }
+  grows : (c : Content) (op : Op) → IsChange op → after_call c op ≡ record { base = c.base; since = c.since ++ op ∷ [] }
   grows c (wrote place new) is = refl
   grows c (cut_to len) is = refl
   grows c synced is = absurd is
@@ -121,16 +121,16 @@ module _ (h : Inside) (kept : IsKept h) (bytes first : Vec ℕ Global) (entries 
   long : length h.entries.items ≡ length (ops_of h.entries.items)
   long = sym (length-map h.entries.items op_of)
 
-  content : grown_by (settled (past_of h).first) (ops_of h.entries.items ++ op_of entry ∷ []) ≡ record { base = after_ops (past_of h).first (take h.synced (ops_of h.entries.items ++ op_of entry ∷ [])); since = drop h.synced (ops_of h.entries.items ++ op_of entry ∷ []) }
+  content : after_calls (settled (past_of h).first) (ops_of h.entries.items ++ op_of entry ∷ []) ≡ record { base = after_ops (past_of h).first (take h.synced (ops_of h.entries.items ++ op_of entry ∷ [])); since = drop h.synced (ops_of h.entries.items ++ op_of entry ∷ []) }
   content =
       let here : h.synced ≤ length (ops_of h.entries.items) = omega (arith, kept.mark, long) in
-      grown_by-push (settled (past_of h).first) (ops_of h.entries.items) (op_of entry) ∙ ap (λ (c : Content). grown c (op_of entry)) kept.content
+      after_calls-push (settled (past_of h).first) (ops_of h.entries.items) (op_of entry) ∙ ap (λ (c : Content). after_call c (op_of entry)) kept.content
       ∙ grows (record { base = after_ops (past_of h).first (take h.synced (ops_of h.entries.items)); since = drop h.synced (ops_of h.entries.items) }) (op_of entry) change
       ∙ ap (λ (l : List Op). record { base = after_ops (past_of h).first l; since = drop h.synced (ops_of h.entries.items) ++ op_of entry ∷ [] }) (sym (take-append-le h.synced (ops_of h.entries.items) (op_of entry ∷ []) here))
       ∙ ap (λ (l : List Op). record { base = after_ops (past_of h).first (take h.synced (ops_of h.entries.items ++ op_of entry ∷ [])); since = l }) (sym (drop-append-le h.synced (ops_of h.entries.items) (op_of entry ∷ []) here))
 
   abbrev Content-is : List ℕ → List Op → Type 0
-  Content-is f o = grown_by (settled f) o ≡ record { base = after_ops f (take h.synced o); since = drop h.synced o }
+  Content-is f o = after_calls (settled f) o ≡ record { base = after_ops f (take h.synced o); since = drop h.synced o }
 
   pub kept_added : IsKept (record { bytes = bytes; first = first; entries = entries; synced = h.synced; tried = h.tried })
   kept_added = record {
@@ -157,12 +157,12 @@ module _ (h : Inside) (kept : IsKept h) (entries : Vec Entry Global) (mark : ℕ
   whole = all ∙ sym (length-map entries.items op_of)
 
   abbrev Synced-is : List ℕ → List Op → Type 0
-  Synced-is f o = grown_by (settled f) o ≡ settled (after_ops f o)
+  Synced-is f o = after_calls (settled f) o ≡ settled (after_ops f o)
 
   settled_all : Synced-is (past_of h).first (ops_of h.entries.items ++ synced ∷ [])
   settled_all =
-      grown_by-push (settled (past_of h).first) (ops_of h.entries.items) synced
-      ∙ ap settled (seen-grown_by (settled (past_of h).first) (ops_of h.entries.items) ∙ sym (after_ops-push (past_of h).first (ops_of h.entries.items) synced))
+      after_calls-push (settled (past_of h).first) (ops_of h.entries.items) synced
+      ∙ ap settled (seen-after_calls (settled (past_of h).first) (ops_of h.entries.items) ∙ sym (after_ops-push (past_of h).first (ops_of h.entries.items) synced))
 
   settled_here : Synced-is (first_bytes entries.items h.first.items h.bytes.items) (ops_of entries.items)
   settled_here = subst (λ (f : List ℕ). Synced-is f (ops_of entries.items)) (sym first_same) (subst (Synced-is (past_of h).first) (sym ops_synced) settled_all)

@@ -1,8 +1,10 @@
 mod DiskCalls
 mod Keeping
+mod Leads
 mod OpLists
 mod Overwriting
 mod Pasts
 mod Replaying
 mod Slots
+mod Soundness
 mod StoreCalls

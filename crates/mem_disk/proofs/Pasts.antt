@@ -3,12 +3,12 @@ use Rattle.std.proofs.Common.{◌≡◌, ℕ, ◌+◌, ◌≤◌, ◌<◌, true,
 use Rattle.std.proofs.lemmas.List.{take-append-le}
 use Rattle.std.proofs.lemmas.Bool.{cases_lt}
 use Rattle.leaf_edges.specs.Disks.{Op, synced, Follows, Only, Elapses}
-use Rattle.mem_disk.specs.Contents.{Content, settled, seen_in, after_op, grown, grown_by, Takes, IsImage}
+use Rattle.mem_disk.specs.Contents.{Content, settled, seen_in, after_op, after_call, after_calls, Takes, IsImage}
 use Rattle.mem_disk.specs.StepLemmas.{takes_none}
 use Rattle.mem_disk.specs.ReachLemmas.{reaches_back, reaches_on}
 use Rattle.mem_disk.specs.MemDisks.{Past, content_of, content_at, with_tried, crash_content, has_some, past_seen, PastImages, past_moment, PastLeftSince, past_unsynced}
 use Rattle.mem_disk.specs.DiskLaws.{has_some-push}
-use Rattle.mem_disk.proofs.OpLists.{after_ops-push, grown_by-push}
+use Rattle.mem_disk.proofs.OpLists.{after_ops-push, after_calls-push}
 
 abbrev pub PastElapses : Past → Past → Type 0
 PastElapses old new = Elapses past_moment PastLeftSince PastImages old new
@@ -25,10 +25,10 @@ module _ (p : Past) (op : Op) (idle : p.tried ≡ None) where
   crash_now = ap (with_tried (content_of p)) idle
 
   at_before : (k : ℕ) → k < length p.done → content_at more k ≡ content_at p k
-  at_before k below = ap (grown_by (settled p.first)) (take-append-le k p.done (op ∷ []) (omega (arith, below)))
+  at_before k below = ap (after_calls (settled p.first)) (take-append-le k p.done (op ∷ []) (omega (arith, below)))
 
   at_now : content_at more (length p.done) ≡ crash_content p
-  at_now = ap (grown_by (settled p.first)) (take-append-le (length p.done) p.done (op ∷ []) (omega arith) ∙ take_all (length p.done) p.done (omega arith)) ∙ sym crash_now
+  at_now = ap (after_calls (settled p.first)) (take-append-le (length p.done) p.done (op ∷ []) (omega arith) ∙ take_all (length p.done) p.done (omega arith)) ∙ sym crash_now
 
   long : length (p.done ++ op ∷ []) ≡ length p.done + 1
   long = length-append p.done (op ∷ [])
@@ -81,9 +81,9 @@ module _ (p : Past) (op : Op) (idle : p.tried ≡ None) where
   time_tried = record { later = omega arith; nothing_else = λ t c le left. tried_was t c left; keeps = λ t c le left. tried_is t c left }
 
   -- a write or a cut
-  module _ (grows : (c : Content) → grown c op ≡ record { base = c.base; since = c.since ++ op ∷ [] }) where
+  module _ (grows : (c : Content) → after_call c op ≡ record { base = c.base; since = c.since ++ op ∷ [] }) where
     content_more : content_of more ≡ record { base = (content_of p).base; since = (content_of p).since ++ op ∷ [] }
-    content_more = grown_by-push (settled p.first) p.done op ∙ grows (content_of p)
+    content_more = after_calls-push (settled p.first) p.done op ∙ grows (content_of p)
 
     crash_more : crash_content more ≡ record { base = (content_of p).base; since = (content_of p).since ++ op ∷ [] }
     crash_more = ap (with_tried (content_of more)) idle ∙ content_more
@@ -105,7 +105,7 @@ module _ (p : Past) (idle : p.tried ≡ None) where
   more_synced = record p { done = p.done ++ synced ∷ [] }
 
   content_synced : content_of more_synced ≡ settled (past_seen p)
-  content_synced = grown_by-push (settled p.first) p.done synced
+  content_synced = after_calls-push (settled p.first) p.done synced
 
   crash_synced : crash_content more_synced ≡ settled (past_seen p)
   crash_synced = ap (with_tried (content_of more_synced)) idle ∙ content_synced

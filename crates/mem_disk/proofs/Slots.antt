@@ -5,7 +5,7 @@ use Rattle.std.proofs.lemmas.Bool.{cases_Bool}
 use Rattle.std.proofs.lemmas.List.{take_more, drop_more}
 use Rattle.std.proofs.lemmas.Slice.Eq.{bytes_eq-Decides}
 use Rattle.mem_disk.specs.MemDisks.{DiskState}
-use Rattle.mem_disk.specs.Stores.{Slot, Text, disk_in, is_out_in, text_in, has_name, IsFirst, disk_at, with_disk}
+use Rattle.mem_disk.specs.Stores.{Slot, Text, disk_in, is_out_in, text_in, has_name, IsFirstOf, disk_at, with_disk}
 
 pub same_name : (a b : List ℕ) → bytes_eq a b ≡ true → a ≡ b
 same_name a b is = (bytes_eq-Decides a b).0 is
@@ -34,7 +34,7 @@ or_parts : (a b : Bool) → (a || b) ≡ false → (a ≡ false) × (b ≡ false
 or_parts true b is = absurd (cc)
 or_parts false b is = (refl, is)
 
-pub first_here : (slots : List Slot) (name : List ℕ) (at : ℕ) (slot : Slot) → has_name (take at slots) name ≡ false → at < length slots → slot ≡ get_or slots at slot → bytes_eq slot.name name ≡ true → IsFirst slots name at
+pub first_here : (slots : List Slot) (name : List ℕ) (at : ℕ) (slot : Slot) → has_name (take at slots) name ≡ false → at < length slots → slot ≡ get_or slots at slot → bytes_eq slot.name name ≡ true → IsFirstOf slots name at
 first_here [] name at slot none within is named = absurd (omega arith)
 first_here (s ∷ slots) name zero slot none within is named = subst (λ (x : Slot). bytes_eq x.name name ≡ true) is named
 first_here (s ∷ slots) name (suc at) slot none within is named =
@@ -73,27 +73,27 @@ chosen b x y is = ap (λ (v : Bool). if v then x else y) is
 passed : {A : Type 0} (b : Bool) (x y : A) → b ≡ false → (if b then x else y) ≡ y
 passed b x y is = ap (λ (v : Bool). if v then x else y) is
 
-pub first_within : (slots : List Slot) (name : List ℕ) (at : ℕ) → IsFirst slots name at → at < length slots
+pub first_within : (slots : List Slot) (name : List ℕ) (at : ℕ) → IsFirstOf slots name at → at < length slots
 first_within [] name at first = absurd first
 first_within (s ∷ slots) name zero first = omega arith
 first_within (s ∷ slots) name (suc at) first = omega (arith, first_within slots name at first.1)
 
-pub first_disk : (slots : List Slot) (name : List ℕ) (at : ℕ) → IsFirst slots name at → disk_in slots name ≡ disk_at slots at
+pub first_disk : (slots : List Slot) (name : List ℕ) (at : ℕ) → IsFirstOf slots name at → disk_in slots name ≡ disk_at slots at
 first_disk [] name at first = absurd first
 first_disk (s ∷ slots) name zero first = chosen (bytes_eq s.name name) s.disk (disk_in slots name) first
 first_disk (s ∷ slots) name (suc at) first = passed (bytes_eq s.name name) s.disk (disk_in slots name) first.0 ∙ first_disk slots name at first.1
 
-pub first_out : (slots : List Slot) (name : List ℕ) (at : ℕ) → IsFirst slots name at → is_out_in slots name ≡ is_none (disk_at slots at)
+pub first_out : (slots : List Slot) (name : List ℕ) (at : ℕ) → IsFirstOf slots name at → is_out_in slots name ≡ is_none (disk_at slots at)
 first_out [] name at first = absurd first
 first_out (s ∷ slots) name zero first = chosen (bytes_eq s.name name) (is_none s.disk) (is_out_in slots name) first
 first_out (s ∷ slots) name (suc at) first = passed (bytes_eq s.name name) (is_none s.disk) (is_out_in slots name) first.0 ∙ first_out slots name at first.1
 
-pub first_kept : (slots : List Slot) (name : List ℕ) (at : ℕ) (disk : Option DiskState) → IsFirst slots name at → IsFirst (with_disk slots at disk) name at
+pub first_kept : (slots : List Slot) (name : List ℕ) (at : ℕ) (disk : Option DiskState) → IsFirstOf slots name at → IsFirstOf (with_disk slots at disk) name at
 first_kept [] name at disk first = absurd first
 first_kept (s ∷ slots) name zero disk first = first
 first_kept (s ∷ slots) name (suc at) disk first = (first.0, first_kept slots name at disk first.1)
 
-pub disk_at-with : (slots : List Slot) (name : List ℕ) (at : ℕ) (disk : Option DiskState) → IsFirst slots name at → disk_at (with_disk slots at disk) at ≡ disk
+pub disk_at-with : (slots : List Slot) (name : List ℕ) (at : ℕ) (disk : Option DiskState) → IsFirstOf slots name at → disk_at (with_disk slots at disk) at ≡ disk
 disk_at-with [] name at disk first = absurd first
 disk_at-with (s ∷ slots) name zero disk first = refl
 disk_at-with (s ∷ slots) name (suc at) disk first = disk_at-with slots name at disk first.1
@@ -101,14 +101,14 @@ disk_at-with (s ∷ slots) name (suc at) disk first = disk_at-with slots name at
 not_other : (s : Slot) (name other : List ℕ) → bytes_eq s.name name ≡ true → other ≢ name → bytes_eq s.name other ≡ false
 not_other s name other named differ = other_name s.name other (λ e. differ (sym e ∙ same_name s.name name named))
 
-pub others_disk : (slots : List Slot) (name : List ℕ) (at : ℕ) (disk : Option DiskState) → IsFirst slots name at → (other : List ℕ) → other ≢ name → disk_in (with_disk slots at disk) other ≡ disk_in slots other
+pub others_disk : (slots : List Slot) (name : List ℕ) (at : ℕ) (disk : Option DiskState) → IsFirstOf slots name at → (other : List ℕ) → other ≢ name → disk_in (with_disk slots at disk) other ≡ disk_in slots other
 others_disk [] name at disk first other differ = absurd first
 others_disk (s ∷ slots) name zero disk first other differ =
     let no_ = not_other s name other first differ in
     passed (bytes_eq s.name other) disk (disk_in slots other) no_ ∙ sym (passed (bytes_eq s.name other) s.disk (disk_in slots other) no_)
 others_disk (s ∷ slots) name (suc at) disk first other differ = ap (λ (d : Option DiskState). if bytes_eq s.name other then s.disk else d) (others_disk slots name at disk first.1 other differ)
 
-pub others_out : (slots : List Slot) (name : List ℕ) (at : ℕ) (disk : Option DiskState) → IsFirst slots name at → (other : List ℕ) → other ≢ name → is_out_in (with_disk slots at disk) other ≡ is_out_in slots other
+pub others_out : (slots : List Slot) (name : List ℕ) (at : ℕ) (disk : Option DiskState) → IsFirstOf slots name at → (other : List ℕ) → other ≢ name → is_out_in (with_disk slots at disk) other ≡ is_out_in slots other
 others_out [] name at disk first other differ = absurd first
 others_out (s ∷ slots) name zero disk first other differ =
     let no_ = not_other s name other first differ in

@@ -4,7 +4,7 @@ use Rattle.std.specs.Prelude.{is_none}
 use Rattle.leaf_edges.specs.Memory.{risen}
 use Rattle.leaf_edges.specs.Files.{TellsAs, IsEmptyDisk, SameFiles, GoesOut, GoesBack, HandsOut, IfHanded}
 use Rattle.mem_disk.specs.MemDisks.{DiskState, fresh_disk, disk_seen, disk_images, disk_moment, disk_left_since, disk_unsynced, disk_done, disk_failed}
-use Rattle.mem_disk.specs.Stores.{Store, IsFirst, disk_at, with_disk, has_name, forgiven, store_place, store_is_out, store_handed, store_text}
+use Rattle.mem_disk.specs.Stores.{Store, IsFirstOf, disk_at, with_disk, has_name, forgiven, store_place, store_is_out, store_handed, store_text}
 use Rattle.mem_disk.proofs.Slots.{first_disk, first_out, first_kept, disk_at-with, others_disk, others_out, absent_disk, absent_out, with_new, new_disk, new_out, new_others_disk, new_others_out}
 
 abbrev pub Alike : DiskState → DiskState → Type 0
@@ -33,7 +33,7 @@ some_disk : (here : Option DiskState) → is_none here ≡ false → (kept : Dis
 some_disk None is = absurd (cc)
 some_disk (Some kept) is = (kept, refl)
 
-module _ (old : Store) (name : List ℕ) (at : ℕ) (first : IsFirst old.slots name at) where
+module _ (old : Store) (name : List ℕ) (at : ℕ) (first : IsFirstOf old.slots name at) where
   kept_disk : store_is_out old name ≡ false → (kept : DiskState) × (disk_at old.slots at ≡ Some kept)
   kept_disk in_place = some_disk (disk_at old.slots at) (sym (first_out old.slots name at first) ∙ in_place)
 

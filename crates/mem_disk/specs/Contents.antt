@@ -29,15 +29,15 @@ abbrev pub seen_in : Content → List ℕ
 seen_in c = after_ops c.base c.since
 
 -- one call more
-abbrev pub grown : Content → Op → Content
-grown c (wrote place bytes) = record { base = c.base; since = c.since ++ wrote place bytes ∷ [] }
-grown c (cut_to len) = record { base = c.base; since = c.since ++ cut_to len ∷ [] }
-grown c synced = settled (seen_in c)
+abbrev pub after_call : Content → Op → Content
+after_call c (wrote place bytes) = record { base = c.base; since = c.since ++ wrote place bytes ∷ [] }
+after_call c (cut_to len) = record { base = c.base; since = c.since ++ cut_to len ∷ [] }
+after_call c synced = settled (seen_in c)
 
 -- these calls more, the first first
-abbrev pub grown_by : Content → List Op → Content
-grown_by c [] = c
-grown_by c (op ∷ ops) = grown_by (grown c op) ops
+abbrev pub after_calls : Content → List Op → Content
+after_calls c [] = c
+after_calls c (op ∷ ops) = after_calls (after_call c op) ops
 
 -- what a crash may make of one call
 abbrev pub Takes : Op → List ℕ → List ℕ → Type 0

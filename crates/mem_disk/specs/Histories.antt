@@ -1,6 +1,6 @@
 -- What holds of the fields of a history.
 use Rattle.std.specs.Prelude.{◌≡◌, ◌<◌, ◌≤◌, length, take, drop, option_map, IfSome, All, vec_len, vec_capacity}
-use Rattle.mem_disk.specs.Contents.{after_ops, grown_by, settled}
+use Rattle.mem_disk.specs.Contents.{after_ops, after_calls, settled}
 use Rattle.mem_disk.specs.Entries.{op_of, ops_of, first_bytes, EndsWithin}
 use Rattle.mem_disk.specs.MemDisks.{Past}
 use Rattle.mem_disk.specs.declared.history.History.TheInside.{Inside}
@@ -13,7 +13,7 @@ pub record IsKept (h : Inside) : Type 0 where
   pub seen : after_ops (past_of h).first (past_of h).done ≡ h.bytes.items
   -- the entries from the mark on are unsynced
   pub mark : h.synced ≤ length h.entries.items
-  pub content : grown_by (settled (past_of h).first) (past_of h).done ≡ record { base = after_ops (past_of h).first (take h.synced (past_of h).done); since = drop h.synced (past_of h).done }
+  pub content : after_calls (settled (past_of h).first) (past_of h).done ≡ record { base = after_ops (past_of h).first (take h.synced (past_of h).done); since = drop h.synced (past_of h).done }
   -- there is room for the entry of the next sync, and for each image that a crash may put in place
   pub sync_room : h.synced < length h.entries.items → vec_len h.entries < vec_capacity h.entries
   pub first_room : length (past_of h).first ≤ vec_capacity h.bytes

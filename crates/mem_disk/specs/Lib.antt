@@ -2,10 +2,13 @@ pub mod Contents
 pub mod DiskLaws
 pub mod Entries
 pub mod Histories
+pub mod Leading
+pub mod LeadingLaws
 pub mod MemDiskFields
 pub mod MemDisks
 pub mod ReachLemmas
 pub mod StepLemmas
 pub mod StoreFields
+pub mod StoreLeading
 pub mod Stores
 pub mod Times

@@ -6,7 +6,7 @@ use Rattle.mem_disk.specs.declared.fate.Fate.{Fate}
 use Rattle.mem_disk.specs.declared.fate.Fate.TheVariants.{Lost}
 use Rattle.leaf_edges.specs.Memory.{risen, is_failing}
 use Rattle.leaf_edges.specs.Disks.{Op, wrote, cut_to, synced}
-use Rattle.mem_disk.specs.Contents.{Content, settled, seen_in, grown_by, IsImage, picked}
+use Rattle.mem_disk.specs.Contents.{Content, settled, seen_in, after_calls, IsImage, picked}
 
 -- the bytes at first, the calls that were Ok since, and the write at which it was stopped
 pub record Past : Type 0 where
@@ -31,7 +31,7 @@ fresh_past bytes = record { first = bytes; done = []; tried = None }
 
 -- what the calls made of the first bytes
 abbrev pub content_of : Past → Content
-content_of p = grown_by (settled p.first) p.done
+content_of p = after_calls (settled p.first) p.done
 
 -- with a write that was tried, of which a crash may leave any part
 abbrev pub with_tried : Content → Option Op → Content
@@ -44,7 +44,7 @@ crash_content p = with_tried (content_of p) p.tried
 
 -- the content after so many of its calls
 abbrev pub content_at : Past → ℕ → Content
-content_at p k = grown_by (settled p.first) (take k p.done)
+content_at p k = after_calls (settled p.first) (take k p.done)
 
 -- there is one
 abbrev pub has_some : List Op → Bool
@@ -102,10 +102,18 @@ disk_failed d = d.last_failed
 abbrev pub disk_faults : DiskState → ℕ
 disk_faults d = d.fault_count
 
--- what holds of every disk in memory: one that isn't stopped has no write that was tried
+-- the most bytes that a disk in memory holds
+abbrev pub max_disk : ℕ
+max_disk = 2 ^ 39
+
+-- what holds of every disk in memory
 pub record IsSound (d : DiskState) : Type 0 where
+  -- one that isn't stopped has no write that was tried
   pub idle : is_some d.stopped ≡ false → d.past.tried ≡ None
   pub range : d.fault_count < 2 ^ 64
+  pub count : d.calls < 2 ^ 64
+  -- it holds at most so many bytes, after a crash too
+  pub short : (c : List ℕ) → disk_images d c → length c ≤ max_disk
 
 -- what a call answers, and what it leaves
 
@@ -188,10 +196,6 @@ crashed d = record d { past = fresh_past (crash_image d); stopped = None }
 -- a disk made with these bytes, whose calls with these numbers are to fail
 abbrev pub fresh_disk : List ℕ → List ℕ → DiskState
 fresh_disk bytes failing = record { past = fresh_past bytes; last_failed = None; stopped = None; fuse = 0; fuse_fate = Lost; failing = failing; calls = 0; fault_count = 0 }
-
--- the most bytes that a write may reach
-abbrev pub max_disk : ℕ
-max_disk = 2 ^ 39
 
 -- a write or a cut
 abbrev pub IsChange : Op → Type 0

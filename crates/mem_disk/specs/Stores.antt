@@ -1,5 +1,5 @@
 -- A store of files in memory: what it keeps, and what it tells.
-use Rattle.std.specs.Prelude.{◌≡◌, ℕ, zero, suc, Bool, true, false, ◌||◌, List, [], ◌∷◌, length, bytes_eq, if◌then◌else◌, nat_lt, Option, Some, None, is_none, Result, Ok, Err}
+use Rattle.std.specs.Prelude.{◌≡◌, ℕ, zero, suc, Bool, true, false, ◌||◌, List, [], ◌∷◌, map, length, bytes_eq, if◌then◌else◌, nat_lt, Option, Some, None, is_none, Result, Ok, Err}
 use Rattle.leaf_edges.specs.declared.fault.EdgeError.{EdgeError}
 use Rattle.leaf_edges.specs.declared.fault.EdgeError.TheVariants.{Failed, NoMemory}
 use Rattle.leaf_edges.specs.Memory.{risen}
@@ -46,11 +46,15 @@ abbrev pub has_name : List Slot → List ℕ → Bool
 has_name [] name = false
 has_name (slot ∷ slots) name = bytes_eq slot.name name || has_name slots name
 
+-- the names of the slots
+abbrev pub names_of : List Slot → List (List ℕ)
+names_of slots = map (λ (slot : Slot). slot.name) slots
+
 -- the first slot of the name is the one at this place
-abbrev pub IsFirst : List Slot → List ℕ → ℕ → Type 0
-IsFirst [] name at = ⊥
-IsFirst (slot ∷ slots) name zero = bytes_eq slot.name name ≡ true
-IsFirst (slot ∷ slots) name (suc at) = (bytes_eq slot.name name ≡ false) × IsFirst slots name at
+abbrev pub IsFirstOf : List Slot → List ℕ → ℕ → Type 0
+IsFirstOf [] name at = ⊥
+IsFirstOf (slot ∷ slots) name zero = bytes_eq slot.name name ≡ true
+IsFirstOf (slot ∷ slots) name (suc at) = (bytes_eq slot.name name ≡ false) × IsFirstOf slots name at
 
 -- the disk at a place
 abbrev pub disk_at : List Slot → ℕ → Option DiskState

@@ -1,8 +1,10 @@
 ghost use Rattle.std.specs.Prelude.{◌≡◌, ◌≤◌, ◌<◌, ◌+◌, ◌^◌, ℕ, List, Bool, true, false, Some, length, take, drop, IfOk, OnOk, IsErrOf, IsTrue};
-ghost use Rattle.leaf_edges.specs.Causes.{Causes};
+ghost use Rattle.leaf_edges.specs.Causes.{CausesOne};
 ghost use Rattle.leaf_edges.specs.Disks.{Torn, Cut, Follows, Only, Unchanged, Elapses, Notes, NotesSync, overwritten, wrote, cut_to, synced};
 ghost use Rattle.mem_disk.specs.Entries.{op_of};
 ghost use Rattle.mem_disk.specs.MemDisks.{fresh_disk, max_disk, past_seen, PastImages, past_moment, PastLeftSince, past_unsynced, disk_tells, disk_seen, disk_images, disk_moment, disk_left_since, disk_unsynced, disk_done, disk_failed, disk_faults, refuses, counted, failed_at, burnt, IsSound, look_answer, write_answer, cut_answer, sync_answer, Answers, AnswersOrNot, crashed};
+ghost use Rattle.mem_disk.specs.Leading.{LeadsTo};
+ghost use Rattle.mem_disk.specs.LeadingLaws.{leads_here, leads_on};
 ghost use Rattle.mem_disk.specs.DiskLaws.{past_seen_is_image, past_synced_is_only, past_only_now};
 ghost use mathlib.Core.Logic.{inl};
 
@@ -39,17 +41,20 @@ impl Model for MemDisk {
 
     ghost Value = { DiskState };
 
-    ghost use Rattle.mem_disk.specs.MemDiskFields.{disk_of, IsIdle};
+    ghost use Rattle.mem_disk.specs.MemDiskFields.{disk_of, AreSound};
 
     ghost view = { disk_of };
 
-    ghost invariant = { IsIdle };
+    ghost invariant = { AreSound };
 }
 
 impl MemDisk {
-    /// A disk with these bytes, all of them synced, whose calls with these numbers fail.
+    /// A disk with these bytes, at most `2^39` of them and all synced, whose calls with these numbers
+    /// fail.
     pub fn new(alloc: Global, bytes: Vec<u8>, failing: Vec<u64>) -> MemDisk
-        ensures { result ≡ fresh_disk bytes.items failing.items }
+        requires { length bytes.items ≤ max_disk }
+        ensures value { result ≡ fresh_disk bytes.items failing.items }
+        ensures sound { IsSound result }
     {
         MemDisk {
             alloc,
@@ -66,7 +71,8 @@ impl MemDisk {
 
     /// What a read gives.
     pub fn bytes(&self) -> &[u8]
-        ensures { result.now ≡ past_seen self.now.past }
+        ensures value { result.now ≡ past_seen self.now.past }
+        ensures sound { IsSound self.now }
     {
         self.history.bytes()
     }
@@ -93,7 +99,8 @@ impl MemDisk {
 
     /// How many of its calls failed, up to `2^64 - 1`.
     pub fn fault_count(&self) -> u64
-        ensures { result ≡ self.now.fault_count }
+        ensures value { result ≡ self.now.fault_count }
+        ensures sound { IsSound self.now }
     {
         self.faults
     }
@@ -106,7 +113,8 @@ impl MemDisk {
 
     /// Whether the next call fails, whichever it is.
     fn refuses(&self) -> bool
-        ensures { result ≡ refuses self.now }
+        ensures value { result ≡ refuses self.now }
+        ensures sound { IsSound self.now }
     {
         let number = self.calls.saturating_add(1);
         self.stopped.is_some() || self.failing.contains(&number)
@@ -230,6 +238,12 @@ impl Disk for MemDisk {
 
     ghost faults = { disk_faults };
 
+    ghost leads = { LeadsTo };
+
+    ghost leads_here = { leads_here };
+
+    ghost leads_on = { leads_on };
+
     ghost seen_is_image = { λ d _. past_seen_is_image d.past };
 
     ghost synced_is_only = { λ d _ clean. past_synced_is_only d.past clean };
@@ -243,7 +257,8 @@ impl Disk for MemDisk {
         ensures same { disk_tells → Unchanged disk_seen disk_images disk_unsynced disk_done disk_failed self.old self.new }
         ensures time { disk_tells → Elapses disk_moment disk_left_since disk_images self.old self.new }
         ensures memory { IsErrOf result EdgeError.NoMemory → ⊥ }
-        ensures cause { Causes (disk_faults self.old) (disk_faults self.new) result }
+        ensures cause { CausesOne (disk_faults self.old) (disk_faults self.new) result }
+        ensures leads { LeadsTo self.old self.new }
         // It fails exactly where it is stopped or its number is listed.
         ensures exact { Answers (look_answer self.old) self.new result }
     {
@@ -259,7 +274,8 @@ impl Disk for MemDisk {
         ensures same { disk_tells → Unchanged disk_seen disk_images disk_unsynced disk_done disk_failed self.old self.new }
         ensures time { disk_tells → Elapses disk_moment disk_left_since disk_images self.old self.new }
         ensures memory { IsErrOf result EdgeError.NoMemory → ⊥ }
-        ensures cause { Causes (disk_faults self.old) (disk_faults self.new) result }
+        ensures cause { CausesOne (disk_faults self.old) (disk_faults self.new) result }
+        ensures leads { LeadsTo self.old self.new }
         // It fails exactly where it is stopped or its number is listed.
         ensures exact { Answers (look_answer self.old) self.new result }
     {
@@ -281,7 +297,8 @@ impl Disk for MemDisk {
         ensures crash { disk_tells → Follows (Torn place (length bytes.now)) (disk_images self.old) (disk_images self.new) }
         ensures memory { disk_tells → IsErrOf result EdgeError.NoMemory → Unchanged disk_seen disk_images disk_unsynced disk_done disk_failed self.old self.new }
         ensures time { disk_tells → Elapses disk_moment disk_left_since disk_images self.old self.new }
-        ensures cause { Causes (disk_faults self.old) (disk_faults self.new) result }
+        ensures cause { CausesOne (disk_faults self.old) (disk_faults self.new) result }
+        ensures leads { LeadsTo self.old self.new }
         // Where there is memory, it fails exactly where it is stopped, its number is listed or the
         // fuse stops it.
         ensures exact { AnswersOrNot (write_answer (wrote place bytes.now) self.old) self.old self.new result }
@@ -299,7 +316,8 @@ impl Disk for MemDisk {
         ensures crash { disk_tells → Follows (Cut len) (disk_images self.old) (disk_images self.new) }
         ensures memory { disk_tells → IsErrOf result EdgeError.NoMemory → Unchanged disk_seen disk_images disk_unsynced disk_done disk_failed self.old self.new }
         ensures time { disk_tells → Elapses disk_moment disk_left_since disk_images self.old self.new }
-        ensures cause { Causes (disk_faults self.old) (disk_faults self.new) result }
+        ensures cause { CausesOne (disk_faults self.old) (disk_faults self.new) result }
+        ensures leads { LeadsTo self.old self.new }
         // Where there is memory, it fails exactly where it is stopped or its number is listed.
         ensures exact { AnswersOrNot (cut_answer (cut_to len) self.old) self.old self.new result }
     {
@@ -314,7 +332,8 @@ impl Disk for MemDisk {
         ensures crash { disk_tells → (c : List ℕ) → disk_images self.new c → disk_images self.old c }
         ensures time { disk_tells → Elapses disk_moment disk_left_since disk_images self.old self.new }
         ensures memory { IsErrOf result EdgeError.NoMemory → ⊥ }
-        ensures cause { Causes (disk_faults self.old) (disk_faults self.new) result }
+        ensures cause { CausesOne (disk_faults self.old) (disk_faults self.new) result }
+        ensures leads { LeadsTo self.old self.new }
         // It fails exactly where it is stopped, its number is listed or the fuse stops it.
         ensures exact { Answers (sync_answer self.old) self.new result }
     {

@@ -3,7 +3,8 @@ ghost use Rattle.leaf_edges.specs.Causes.{Causes, Rose};
 ghost use Rattle.leaf_edges.specs.Memory.{is_failing, risen};
 ghost use Rattle.leaf_edges.specs.Files.{TellsAs, IsEmptyDisk, SameFiles, GoesOut, GoesBack, HandsOut, IfHanded, AddsText, CountsDisk};
 ghost use Rattle.mem_disk.specs.MemDisks.{fresh_disk, disk_seen, disk_images, disk_moment, disk_left_since, disk_unsynced, disk_done, disk_failed, disk_faults};
-ghost use Rattle.mem_disk.specs.Stores.{forgiven, has_name, IsFirst, disk_at, with_disk, text_in, store_tells, store_place, store_is_out, store_handed, store_text, store_faults, store_disk_faults, is_too_long, FailsWhere};
+ghost use Rattle.mem_disk.specs.StoreLeading.{StoreLeadsTo, store_leads_here, store_leads_on};
+ghost use Rattle.mem_disk.specs.Stores.{forgiven, has_name, IsFirstOf, disk_at, with_disk, text_in, store_tells, store_place, store_is_out, store_handed, store_text, store_faults, store_disk_faults, is_too_long, FailsWhere};
 
 use crate::{MemDisk, NamedDisk, NamedText};
 use leaf_edges::{EdgeError, Files};
@@ -29,7 +30,8 @@ pub struct MemFiles {
 }
 
 impl Model for MemFiles {
-    ghost use Rattle.mem_disk.specs.Stores.{Store};
+    ghost use Rattle.mem_disk.specs.StoreLeading.{StoreLeadsTo, store_leads_here, store_leads_on};
+ghost use Rattle.mem_disk.specs.Stores.{Store};
 
     ghost Value = { Store };
 
@@ -109,7 +111,7 @@ impl MemFiles {
     /// Puts a disk in its place.
     fn put_back(&mut self, name: &[u8], disk: MemDisk)
         requires { store_is_out self.old name.now ≡ true }
-        ensures { (at : ℕ) × IsFirst self.old.slots name.now at × (self.new ≡ record self.old { slots = with_disk self.old.slots at (Some disk) }) }
+        ensures { (at : ℕ) × IsFirstOf self.old.slots name.now at × (self.new ≡ record self.old { slots = with_disk self.old.slots at (Some disk) }) }
     {
         match find(&self.disks, name) {
             Some(at) => shelve(&mut self.disks, at, disk),
@@ -120,7 +122,7 @@ impl MemFiles {
 
     /// Hands out the disk at a place.
     fn hand_out(&mut self, name: &[u8], at: usize) -> Result<Option<MemDisk>, AllocError>
-        requires { IsFirst self.old.slots name.now at }
+        requires { IsFirstOf self.old.slots name.now at }
         ensures disk { IfOk result (λ disk. disk ≡ option_map forgiven (disk_at self.old.slots at)) }
         ensures ok { OnOk result (self.new ≡ record self.old { slots = with_disk self.old.slots at None; handed = self.old.handed ++ name.now ∷ []; calls = risen self.old.calls }) }
         ensures err { OnErr result (self.new ≡ self.old) }
@@ -152,7 +154,7 @@ impl MemFiles {
 
 /// The place of the first disk of this name.
 fn find(disks: &[NamedDisk], name: &[u8]) -> Option<usize>
-    ensures { MatchOption result (has_name disks.now name.now ≡ false) (λ at. IsFirst disks.now name.now at) }
+    ensures { MatchOption result (has_name disks.now name.now ≡ false) (λ at. IsFirstOf disks.now name.now at) }
 {
     for (at, disk) in disks.iter().enumerate() {
         if disk.name() == name {
@@ -221,6 +223,12 @@ impl Files for MemFiles {
 
     ghost disk_faults = { store_disk_faults };
 
+    ghost leads = { StoreLeadsTo };
+
+    ghost leads_here = { store_leads_here };
+
+    ghost leads_on = { store_leads_on };
+
     ghost disks_tell = { λ _. tt };
 
     fn disk(&mut self, name: &[u8], make: bool) -> Result<Option<MemDisk>, EdgeError>
@@ -232,6 +240,7 @@ impl Files for MemFiles {
             (SameFiles store_place store_is_out store_handed store_text self.old self.new) }
         ensures disk_faults { store_disk_faults self.new ≡ store_disk_faults self.old }
         ensures cause { Causes (store_faults self.old) (store_faults self.new) result }
+        ensures leads { StoreLeadsTo self.old self.new }
         // Where there is memory, it fails exactly where its number is listed.
         ensures exact { FailsWhere (is_failing self.old.failing self.old.calls) self.old self.new result }
     {
@@ -260,6 +269,7 @@ impl Files for MemFiles {
         ensures same { store_tells → SameFiles store_place store_is_out store_handed store_text self.old self.new }
         ensures disk_faults { store_disk_faults self.new ≡ store_disk_faults self.old }
         ensures cause { Causes (store_faults self.old) (store_faults self.new) result }
+        ensures leads { StoreLeadsTo self.old self.new }
         // Where there is memory, it fails exactly where its number is listed or the text is too long.
         ensures exact { FailsWhere (is_failing self.old.failing self.old.calls || is_too_long (store_text self.old name.now)) self.old self.new result }
     {
@@ -291,6 +301,7 @@ impl Files for MemFiles {
         ensures goes { store_tells → GoesBack store_place store_is_out store_handed store_text name.now disk self.old self.new }
         ensures faults { store_faults self.new ≡ store_faults self.old }
         ensures disk_faults { CountsDisk (disk_faults disk) (store_disk_faults self.old) (store_disk_faults self.new) }
+        ensures leads { StoreLeadsTo self.old self.new }
     {
         let is_faulty = disk.fault_count() != 0;
         self.put_back(name, disk);

@@ -1,4 +1,5 @@
 use Rattle.mem_disk.proofs.DiskCalls.{cut_seen, cut_dirt, cut_crash, cut_time, cut_cause}
+use Rattle.mem_disk.proofs.Leads.{cut_leads}
 use Rattle.mem_disk.proofs.disk.MemDiskDisk.cut.Goals as goal
 
 pub returns-clause-shorter : goal.returns-clause-shorter
@@ -15,3 +16,6 @@ returns-clause-time c tells = cut_time c.args.len c.args.self.now c.do_cut.new.s
 
 pub returns-clause-cause : goal.returns-clause-cause
 returns-clause-cause c = cut_cause c.args.len c.args.self.now c.do_cut.new.self c.do_cut.result c.do_cut.ensures.sound c.do_cut.ensures.exact
+
+pub returns-clause-leads : goal.returns-clause-leads
+returns-clause-leads c = cut_leads c.args.len c.args.self.now c.do_cut.new.self c.do_cut.result c.do_cut.ensures.sound c.do_cut.ensures.exact

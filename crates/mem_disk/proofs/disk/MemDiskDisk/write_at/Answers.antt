@@ -1,4 +1,5 @@
 use Rattle.mem_disk.proofs.DiskCalls.{write_seen, write_dirt, write_crash, write_time, write_cause}
+use Rattle.mem_disk.proofs.Leads.{write_leads}
 use Rattle.mem_disk.proofs.disk.MemDiskDisk.write_at.Goals as goal
 
 pub returns-clause-written : goal.returns-clause-written
@@ -15,3 +16,6 @@ returns-clause-time c tells = write_time c.args.place c.args.bytes.now c.args.se
 
 pub returns-clause-cause : goal.returns-clause-cause
 returns-clause-cause c = write_cause c.args.place c.args.bytes.now c.args.self.now c.do_write.new.self c.do_write.result c.do_write.ensures.sound c.do_write.ensures.exact
+
+pub returns-clause-leads : goal.returns-clause-leads
+returns-clause-leads c = write_leads c.args.place c.args.bytes.now c.args.self.now c.do_write.new.self c.do_write.result c.do_write.ensures.sound c.do_write.ensures.limit c.do_write.ensures.exact

@@ -1,5 +1,5 @@
 use Rattle.std.proofs.Common.{◌∙◌, List, subst, sym, ap}
-use Rattle.mem_disk.specs.Stores.{Store, Slot, IsFirst, has_name}
+use Rattle.mem_disk.specs.Stores.{Store, Slot, IsFirstOf, has_name}
 use Rattle.mem_disk.proofs.StoreCalls.{lent_disk, lent_goes, made_disk, made_goes, not_there}
 use Rattle.mem_disk.proofs.files.MemFilesFiles.disk.Goals as goal
 
@@ -7,14 +7,14 @@ pub returns-in-Ok-clause-disk : goal.returns-in-Ok-clause-disk
 returns-in-Ok-clause-disk c tells =
     let name = c.args.name.now in
     let slots = c.deref.ensures.value ∙ ap (λ (s : Store). s.slots) c.self.view_is in
-    let first = subst (λ (l : List Slot). IsFirst l name c.in-Some.at) slots c.in-Some.ensures in
+    let first = subst (λ (l : List Slot). IsFirstOf l name c.in-Some.at) slots c.in-Some.ensures in
     lent_disk c.args.self.now name c.in-Some.at first c.args.make c.in-Ok.disk (c.requires tells) c.in-Ok.ensures.disk
 
 pub returns-in-Ok-clause-goes : goal.returns-in-Ok-clause-goes
 returns-in-Ok-clause-goes c tells =
     let name = c.args.name.now in
     let slots = c.deref.ensures.value ∙ ap (λ (s : Store). s.slots) c.self.view_is in
-    let first = subst (λ (l : List Slot). IsFirst l name c.in-Some.at) slots c.in-Some.ensures in
+    let first = subst (λ (l : List Slot). IsFirstOf l name c.in-Some.at) slots c.in-Some.ensures in
     lent_goes c.args.self.now name c.in-Some.at first c.hand_out.new.self c.in-Ok.disk (c.requires tells) c.in-Ok.ensures.disk c.in-Ok.ensures.ok
 
 pub returns-in-Ok-hand_out_new-clause-disk : goal.returns-in-Ok-hand_out_new-clause-disk

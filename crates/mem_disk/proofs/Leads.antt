@@ -1,15 +1,14 @@
 -- Each call of a disk in memory leads on.
-use Rattle.std.proofs.Common.{◌≡◌, ◌≢◌, ℕ, ◌+◌, ◌-◌, ◌^◌, ◌<◌, ◌≤◌, Bool, true, false, not, ◌||◌, ◌==◌, List, [], ◌∷◌, ◌++◌, length, Option, Some, None, Result, Ok, Err, inl, inr, refl, sym, ap, subst, ◌∙◌, arith, append-nil}
+use Rattle.std.proofs.Common.{◌≡◌, ◌≢◌, ℕ, ◌+◌, ◌-◌, ◌^◌, ◌<◌, ◌≤◌, Bool, true, false, not, ◌||◌, ◌==◌, List, [], ◌∷◌, length, Option, Some, None, Result, Ok, Err, inl, inr, refl, sym, ap, subst, ◌∙◌, arith, append-nil}
 use Rattle.std.specs.Prelude.{is_some, IsSome, IsErrOf, if◌then◌else◌}
 use Rattle.std.proofs.lemmas.Bool.{cases_lt}
 use Rattle.std.proofs.lemmas.Bool.Decides.{nat_tests}
 use Rattle.leaf_edges.specs.declared.fault.EdgeError.{EdgeError}
 use Rattle.leaf_edges.specs.declared.fault.EdgeError.TheVariants.{Failed, NoMemory}
-use Rattle.leaf_edges.specs.Memory.{risen, is_failing}
+use Rattle.leaf_edges.specs.Memory.{is_failing}
 use Rattle.leaf_edges.specs.Disks.{Op, wrote, cut_to, synced}
-use Rattle.mem_disk.specs.Entries.{EndsWithin}
 use Rattle.mem_disk.specs.MemDisks.{Past, DiskState, IsSound, max_disk, refuses, counted, faulted, failed_at, stopped_at, done_with, burnt, disk_unsynced, write_answer, cut_answer, sync_answer, look_answer, Answers, AnswersOrNot}
-use Rattle.mem_disk.specs.Leading.{burns, tried_of, GoesOn, StopsBehind, LeadsTo}
+use Rattle.mem_disk.specs.Leading.{burns, tried_of, LeadsTo}
 use Rattle.mem_disk.specs.LeadingLaws.{leads_here}
 use Rattle.mem_disk.proofs.Soundness.{IsShort, running, idle_past, sound_counted, sound_faulted, sound_failed, sound_more, sound_synced, tried_short}
 

@@ -8,3 +8,4 @@ mod Replaying
 mod Slots
 mod Soundness
 mod StoreCalls
+mod StoreLeads

@@ -5,7 +5,7 @@ use Rattle.std.proofs.lemmas.Bool.{cases_Bool}
 use Rattle.std.proofs.lemmas.List.{take_more, drop_more}
 use Rattle.std.proofs.lemmas.Slice.Eq.{bytes_eq-Decides}
 use Rattle.mem_disk.specs.MemDisks.{DiskState}
-use Rattle.mem_disk.specs.Stores.{Slot, Text, disk_in, is_out_in, text_in, has_name, IsFirstOf, disk_at, with_disk}
+use Rattle.mem_disk.specs.Stores.{Slot, Text, disk_in, is_out_in, text_in, has_name, IsFirstOf, disk_at, with_disk, with_disk_of, names_of}
 
 pub same_name : (a b : List ℕ) → bytes_eq a b ≡ true → a ≡ b
 same_name a b is = (bytes_eq-Decides a b).0 is
@@ -67,10 +67,10 @@ text_further texts name at text within is differs =
 
 -- ---- the first slot of a name
 
-chosen : {A : Type 0} (b : Bool) (x y : A) → b ≡ true → (if b then x else y) ≡ x
+pub chosen : {A : Type 0} (b : Bool) (x y : A) → b ≡ true → (if b then x else y) ≡ x
 chosen b x y is = ap (λ (v : Bool). if v then x else y) is
 
-passed : {A : Type 0} (b : Bool) (x y : A) → b ≡ false → (if b then x else y) ≡ y
+pub passed : {A : Type 0} (b : Bool) (x y : A) → b ≡ false → (if b then x else y) ≡ y
 passed b x y is = ap (λ (v : Bool). if v then x else y) is
 
 pub first_within : (slots : List Slot) (name : List ℕ) (at : ℕ) → IsFirstOf slots name at → at < length slots
@@ -114,6 +114,23 @@ others_out (s ∷ slots) name zero disk first other differ =
     let no_ = not_other s name other first differ in
     passed (bytes_eq s.name other) (is_none disk) (is_out_in slots other) no_ ∙ sym (passed (bytes_eq s.name other) (is_none s.disk) (is_out_in slots other) no_)
 others_out (s ∷ slots) name (suc at) disk first other differ = ap (λ (d : Bool). if bytes_eq s.name other then is_none s.disk else d) (others_out slots name at disk first.1 other differ)
+
+-- the slot at the place of the first of a name is that of the name
+pub first_with : (slots : List Slot) (name : List ℕ) (at : ℕ) (disk : Option DiskState) → IsFirstOf slots name at → with_disk slots at disk ≡ with_disk_of slots name disk
+first_with [] name at disk first = absurd first
+first_with (s ∷ slots) name zero disk first = sym (chosen (bytes_eq s.name name) (record s { disk = disk } ∷ slots) (s ∷ with_disk_of slots name disk) first)
+first_with (s ∷ slots) name (suc at) disk first =
+    ap (λ (l : List Slot). s ∷ l) (first_with slots name at disk first.1) ∙ sym (passed (bytes_eq s.name name) (record s { disk = disk } ∷ slots) (s ∷ with_disk_of slots name disk) first.0)
+
+pub first_named : (slots : List Slot) (name : List ℕ) (at : ℕ) → IsFirstOf slots name at → has_name slots name ≡ true
+first_named [] name at first = absurd first
+first_named (s ∷ slots) name zero first = ap (λ (b : Bool). b || has_name slots name) first
+first_named (s ∷ slots) name (suc at) first = ap (λ (b : Bool). b || has_name slots name) first.0 ∙ first_named slots name at first.1
+
+pub same_names : (slots : List Slot) (at : ℕ) (disk : Option DiskState) → names_of (with_disk slots at disk) ≡ names_of slots
+same_names [] at disk = refl
+same_names (s ∷ slots) zero disk = refl
+same_names (s ∷ slots) (suc at) disk = ap (λ (l : List (List ℕ)). s.name ∷ l) (same_names slots at disk)
 
 -- ---- a name that isn't there
 

@@ -1,12 +1,10 @@
 -- What holds of every disk in memory holds after each of its calls.
-use Rattle.std.proofs.Common.{◌≡◌, ℕ, ◌+◌, ◌^◌, ◌<◌, ◌≤◌, Bool, true, false, ◌||◌, List, [], ◌∷◌, ◌++◌, length, Option, Some, None, refl, sym, ap, subst, arith, length-take}
+use Rattle.std.proofs.Common.{◌≡◌, ℕ, ◌≤◌, Bool, true, false, ◌||◌, List, [], ◌∷◌, ◌++◌, length, Some, None, refl, sym, ap, subst, arith, length-take}
 use Rattle.std.specs.Prelude.{is_some}
-use Rattle.leaf_edges.specs.Memory.{risen}
 use Rattle.leaf_edges.specs.Disks.{Op, wrote, cut_to, synced, Follows}
-use Rattle.mem_disk.specs.declared.fate.Fate.{Fate}
 use Rattle.mem_disk.specs.Contents.{Content, after_call, Takes}
 use Rattle.mem_disk.specs.Entries.{EndsWithin}
-use Rattle.mem_disk.specs.MemDisks.{Past, DiskState, past_seen, PastImages, fresh_past, IsSound, IsChange, max_disk, refuses, counted, faulted, failed_at, stopped_at, done_with, burnt}
+use Rattle.mem_disk.specs.MemDisks.{Past, DiskState, past_seen, PastImages, fresh_past, IsSound, IsChange, max_disk, refuses, counted, faulted, failed_at}
 use Rattle.mem_disk.specs.DiskLaws.{past_seen_is_image}
 use Rattle.mem_disk.proofs.Pasts.{images_more, images_tried, only_synced}
 

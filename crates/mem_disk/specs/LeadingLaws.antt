@@ -1,9 +1,9 @@
 -- The laws of what a disk in memory keeps from call to call.
-use Rattle.std.proofs.Common.{◌≡◌, ◌≢◌, ℕ, ◌+◌, ◌-◌, ◌^◌, ◌<◌, ◌≤◌, List, [], ◌∷◌, ◌++◌, Option, Some, None, ◌⊎◌, inl, inr, refl, sym, ap, subst, ◌∙◌, arith, append_assoc, append-nil}
-use Rattle.std.specs.Prelude.{IsSome, is_some, true}
+use Rattle.std.proofs.Common.{◌≡◌, ◌+◌, ◌<◌, ◌≤◌, List, [], ◌∷◌, ◌++◌, Option, Some, None, ◌⊎◌, inl, inr, refl, sym, ap, ◌∙◌, arith, append_assoc, append-nil}
+use Rattle.std.specs.Prelude.{IsSome, is_some}
 use Rattle.leaf_edges.specs.Disks.{Op, wrote, cut_to, synced}
-use Rattle.mem_disk.specs.MemDisks.{DiskState, IsSound}
-use Rattle.mem_disk.specs.Leading.{burns, tried_of, GoesOn, StopsBehind, LeadsTo}
+use Rattle.mem_disk.specs.MemDisks.{DiskState}
+use Rattle.mem_disk.specs.Leading.{burns, GoesOn, StopsBehind, LeadsTo}
 
 pub burns-append : (a b : List Op) → burns (a ++ b) ≡ burns a + burns b
 burns-append [] b = omega arith

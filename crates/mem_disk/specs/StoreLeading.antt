@@ -1,5 +1,5 @@
 -- What a store of files in memory keeps from call to call, with the laws of that.
-use Rattle.std.proofs.Common.{◌≡◌, ℕ, ◌≤◌, List, [], ◌∷◌, ◌++◌, length, refl, sym, ap, subst, ◌∙◌, arith, append_assoc, append-nil}
+use Rattle.std.proofs.Common.{◌≡◌, ℕ, ◌≤◌, List, [], ◌++◌, length, refl, sym, ap, subst, ◌∙◌, arith, append_assoc, append-nil}
 use Rattle.std.specs.Prelude.{All}
 use Rattle.leaf_edges.specs.Files.{max_text}
 use Rattle.mem_disk.specs.Stores.{Text, Store, names_of}

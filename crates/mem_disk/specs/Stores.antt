@@ -1,10 +1,10 @@
 -- A store of files in memory: what it keeps, and what it tells.
-use Rattle.std.specs.Prelude.{◌≡◌, ℕ, zero, suc, Bool, true, false, ◌||◌, List, [], ◌∷◌, map, length, bytes_eq, if◌then◌else◌, nat_lt, Option, Some, None, is_none, Result, Ok, Err}
+use Rattle.std.specs.Prelude.{◌≡◌, ℕ, zero, suc, ◌^◌, ◌<◌, Bool, true, false, ◌||◌, ◌==◌, List, [], ◌∷◌, ◌++◌, map, length, bytes_eq, if◌then◌else◌, nat_lt, Option, Some, None, is_none, is_some, option_map, unwrap_or, Result, Ok, Err}
 use Rattle.leaf_edges.specs.declared.fault.EdgeError.{EdgeError}
 use Rattle.leaf_edges.specs.declared.fault.EdgeError.TheVariants.{Failed, NoMemory}
-use Rattle.leaf_edges.specs.Memory.{risen}
+use Rattle.leaf_edges.specs.Memory.{risen, is_failing}
 use Rattle.leaf_edges.specs.Files.{max_text}
-use Rattle.mem_disk.specs.MemDisks.{DiskState}
+use Rattle.mem_disk.specs.MemDisks.{DiskState, fresh_disk}
 
 -- a name with its disk, which is away where it is out
 pub record Slot : Type 0 where
@@ -68,6 +68,11 @@ with_disk [] at disk = []
 with_disk (slot ∷ slots) zero disk = record slot { disk = disk } ∷ slots
 with_disk (slot ∷ slots) (suc at) disk = slot ∷ with_disk slots at disk
 
+-- the slots with this disk, or none, in the first slot of a name
+abbrev pub with_disk_of : List Slot → List ℕ → Option DiskState → List Slot
+with_disk_of [] name disk = []
+with_disk_of (slot ∷ slots) name disk = if bytes_eq slot.name name then record slot { disk = disk } ∷ slots else slot ∷ with_disk_of slots name disk
+
 -- a disk as it is handed out
 abbrev pub forgiven : DiskState → DiskState
 forgiven disk = record disk { fault_count = 0 }
@@ -100,8 +105,72 @@ abbrev pub is_too_long : Option (List ℕ) → Bool
 is_too_long None = false
 is_too_long (Some bytes) = nat_lt max_text (length bytes)
 
--- A call is counted, but where it found no memory. It fails exactly where this says so.
-abbrev pub FailsWhere : {T : Type 0} → Bool → Store → Store → Result T EdgeError → Type 0
-FailsWhere fails old new (Ok value) = (fails ≡ false) × (new.calls ≡ risen old.calls)
-FailsWhere fails old new (Err Failed) = (fails ≡ true) × (new.calls ≡ risen old.calls)
-FailsWhere fails old new (Err NoMemory) = new ≡ old
+-- what a call answers, and what it leaves
+
+-- one call more
+abbrev pub store_counted : Store → Store
+store_counted s = record s { calls = risen s.calls }
+
+-- one call more, which failed
+abbrev pub store_failed : Store → Store
+store_failed s = record (store_counted s) { fault_count = risen s.fault_count }
+
+-- the disk of a name went out
+abbrev pub lent : Store → List ℕ → Store
+lent s name = record (store_counted s) { slots = with_disk_of s.slots name None; handed = s.handed ++ name ∷ [] }
+
+-- a new disk went out under a new name
+abbrev pub made : Store → List ℕ → Store
+made s name = record (store_counted s) { slots = s.slots ++ record { name = name; disk = None } ∷ []; handed = s.handed ++ name ∷ [] }
+
+-- the disk is in its place again, and one that had a fault is counted
+abbrev pub returned : Store → List ℕ → DiskState → Store
+returned s name disk = record s {
+  slots = with_disk_of s.slots name (Some disk);
+  disk_fault_count = if disk.fault_count == 0 then s.disk_fault_count else risen s.disk_fault_count;
+}
+
+-- whether a call for a disk fails, which disk it hands out, and the store after it
+pub record DiskAnswer : Type 0 where
+  pub fails : Bool
+  pub disk : Option DiskState
+  pub left : Store
+
+-- it fails where its number is listed, and makes a disk where the name has none and that is asked
+abbrev pub disk_answer : Store → List ℕ → Bool → DiskAnswer
+disk_answer s name make =
+    if is_failing s.failing s.calls then record { fails = true; disk = None; left = store_failed s }
+    else if has_name s.slots name then record { fails = false; disk = option_map forgiven (disk_in s.slots name); left = lent s name }
+    else if make then record { fails = false; disk = Some (fresh_disk [] []); left = made s name }
+    else record { fails = false; disk = None; left = store_counted s }
+
+-- the call gives this answer, or there was no memory and nothing changed
+abbrev pub AnswersDisk : DiskAnswer → Store → Store → Result (Option DiskState) EdgeError → Type 0
+AnswersDisk answer old new (Ok disk) = (answer.fails ≡ false) × (disk ≡ answer.disk) × (new ≡ answer.left)
+AnswersDisk answer old new (Err Failed) = (answer.fails ≡ true) × (new ≡ answer.left)
+AnswersDisk answer old new (Err NoMemory) = new ≡ old
+
+-- whether a call for a text fails, whether there is one, the bytes that it adds, and the store after it
+pub record TextAnswer : Type 0 where
+  pub fails : Bool
+  pub found : Bool
+  pub added : List ℕ
+  pub left : Store
+
+-- it fails where its number is listed or the text is too long
+abbrev pub text_answer : Store → List ℕ → TextAnswer
+text_answer s name =
+    if is_failing s.failing s.calls || is_too_long (store_text s name) then record { fails = true; found = false; added = []; left = store_failed s }
+    else record { fails = false; found = is_some (store_text s name); added = unwrap_or (store_text s name) []; left = store_counted s }
+
+-- the call gives this answer, or there was no memory and nothing changed; an error adds nothing
+abbrev pub AnswersText : TextAnswer → Store → Store → List ℕ → List ℕ → Result Bool EdgeError → Type 0
+AnswersText answer old new before after (Ok found) = (answer.fails ≡ false) × (found ≡ answer.found) × (after ≡ before ++ answer.added) × (new ≡ answer.left)
+AnswersText answer old new before after (Err Failed) = (answer.fails ≡ true) × (after ≡ before) × (new ≡ answer.left)
+AnswersText answer old new before after (Err NoMemory) = (after ≡ before) × (new ≡ old)
+
+-- what holds of every store in memory
+pub record IsCounted (s : Store) : Type 0 where
+  pub calls : s.calls < 2 ^ 64
+  pub faults : s.fault_count < 2 ^ 64
+  pub disk_faults : s.disk_fault_count < 2 ^ 64

@@ -4,7 +4,7 @@ ghost use Rattle.leaf_edges.specs.Memory.{is_failing, risen};
 ghost use Rattle.leaf_edges.specs.Files.{TellsAs, IsEmptyDisk, SameFiles, GoesOut, GoesBack, HandsOut, IfHanded, AddsText, CountsDisk};
 ghost use Rattle.mem_disk.specs.MemDisks.{fresh_disk, disk_seen, disk_images, disk_moment, disk_left_since, disk_unsynced, disk_done, disk_failed, disk_faults};
 ghost use Rattle.mem_disk.specs.StoreLeading.{StoreLeadsTo, store_leads_here, store_leads_on};
-ghost use Rattle.mem_disk.specs.Stores.{forgiven, has_name, IsFirstOf, disk_at, with_disk, text_in, store_tells, store_place, store_is_out, store_handed, store_text, store_faults, store_disk_faults, is_too_long, FailsWhere};
+ghost use Rattle.mem_disk.specs.Stores.{forgiven, has_name, IsFirstOf, disk_at, with_disk, text_in, store_tells, store_place, store_is_out, store_handed, store_text, store_faults, store_disk_faults, disk_answer, AnswersDisk, text_answer, AnswersText, returned, IsCounted};
 
 use crate::{MemDisk, NamedDisk, NamedText};
 use leaf_edges::{EdgeError, Files};
@@ -31,13 +31,15 @@ pub struct MemFiles {
 
 impl Model for MemFiles {
     ghost use Rattle.mem_disk.specs.StoreLeading.{StoreLeadsTo, store_leads_here, store_leads_on};
-ghost use Rattle.mem_disk.specs.Stores.{Store};
+    ghost use Rattle.mem_disk.specs.Stores.{Store};
 
     ghost Value = { Store };
 
-    ghost use Rattle.mem_disk.specs.StoreFields.{store_of};
+    ghost use Rattle.mem_disk.specs.StoreFields.{store_of, AreCounts};
 
     ghost view = { store_of };
+
+    ghost invariant = { AreCounts };
 }
 
 impl MemFiles {
@@ -81,7 +83,8 @@ impl MemFiles {
 
     /// Whether the next call of `disk` or `text` is one that is to fail.
     fn is_listed(&self) -> bool
-        ensures { result ≡ is_failing self.now.failing self.now.calls }
+        ensures value { result ≡ is_failing self.now.failing self.now.calls }
+        ensures sound { IsCounted self.now }
     {
         let number = self.calls.saturating_add(1);
         self.failing.contains(&number)
@@ -111,7 +114,8 @@ impl MemFiles {
     /// Puts a disk in its place.
     fn put_back(&mut self, name: &[u8], disk: MemDisk)
         requires { store_is_out self.old name.now ≡ true }
-        ensures { (at : ℕ) × IsFirstOf self.old.slots name.now at × (self.new ≡ record self.old { slots = with_disk self.old.slots at (Some disk) }) }
+        ensures state { (at : ℕ) × IsFirstOf self.old.slots name.now at × (self.new ≡ record self.old { slots = with_disk self.old.slots at (Some disk) }) }
+        ensures sound { IsCounted self.old }
     {
         match find(&self.disks, name) {
             Some(at) => shelve(&mut self.disks, at, disk),
@@ -242,7 +246,7 @@ impl Files for MemFiles {
         ensures cause { Causes (store_faults self.old) (store_faults self.new) result }
         ensures leads { StoreLeadsTo self.old self.new }
         // Where there is memory, it fails exactly where its number is listed.
-        ensures exact { FailsWhere (is_failing self.old.failing self.old.calls) self.old self.new result }
+        ensures exact { AnswersDisk (disk_answer self.old name.now make) self.old self.new result }
     {
         if self.is_listed() {
             self.fail();
@@ -271,7 +275,7 @@ impl Files for MemFiles {
         ensures cause { Causes (store_faults self.old) (store_faults self.new) result }
         ensures leads { StoreLeadsTo self.old self.new }
         // Where there is memory, it fails exactly where its number is listed or the text is too long.
-        ensures exact { FailsWhere (is_failing self.old.failing self.old.calls || is_too_long (store_text self.old name.now)) self.old self.new result }
+        ensures exact { AnswersText (text_answer self.old name.now) self.old self.new buf.old.items buf.new.items result }
     {
         if self.is_listed() {
             self.fail();
@@ -302,6 +306,7 @@ impl Files for MemFiles {
         ensures faults { store_faults self.new ≡ store_faults self.old }
         ensures disk_faults { CountsDisk (disk_faults disk) (store_disk_faults self.old) (store_disk_faults self.new) }
         ensures leads { StoreLeadsTo self.old self.new }
+        ensures exact { self.new ≡ returned self.old name.now disk }
     {
         let is_faulty = disk.fault_count() != 0;
         self.put_back(name, disk);

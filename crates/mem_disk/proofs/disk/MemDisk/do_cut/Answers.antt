@@ -1,4 +1,4 @@
-use Rattle.std.proofs.Common.{◌≡◌, ◌∙◌, ◌++◌, ◌∷◌, [], false, sym, ap, subst}
+use Rattle.std.proofs.Common.{◌≡◌, ◌∙◌, false, sym, ap, subst}
 use Rattle.leaf_edges.specs.Disks.{cut_to}
 use Rattle.mem_disk.specs.MemDisks.{Past, IsSound, refuses}
 use Rattle.mem_disk.specs.MemDiskFields.{disk_of}

@@ -1,5 +1,5 @@
-use Rattle.std.proofs.Common.{◌≡◌, ◌∙◌, Some, Option, false, sym, ap, subst, arith}
-use Rattle.leaf_edges.specs.Disks.{Op, wrote}
+use Rattle.std.proofs.Common.{◌≡◌, ◌∙◌, false, sym, ap, subst, arith}
+use Rattle.leaf_edges.specs.Disks.{wrote}
 use Rattle.mem_disk.specs.Entries.{op_of, EndsWithin}
 use Rattle.mem_disk.specs.MemDisks.{Past, IsSound, IsChange, refuses, max_disk}
 use Rattle.mem_disk.specs.MemDiskFields.{disk_of}

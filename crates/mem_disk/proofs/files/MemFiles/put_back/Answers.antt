@@ -10,8 +10,8 @@ shelve-requires c =
     omega (arith, first_within c.self.inside.disks.items c.args.name.now c.in-Some.at first)
 
 -- a name whose disk is out is there
-pub returns-in-None : goal.returns-in-None
-returns-in-None c =
+pub returns-in-None-clause-state : goal.returns-in-None-clause-state
+returns-in-None-clause-state c =
     let name = c.args.name.now in
     let slots = c.deref.ensures.value ∙ ap (λ (s : Store). s.slots) c.self.view_is in
     let absent = sym (ap (λ (l : List Slot). has_name l name) slots) ∙ c.in-None.ensures in

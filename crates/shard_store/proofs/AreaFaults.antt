@@ -13,7 +13,7 @@ use Rattle.shard_store.specs.declared.fault.StoreFault.{StoreFault}
 use Rattle.shard_store.specs.declared.fault.StoreFault.TheVariants.{ReadFault, BadJournal, TooLong, NoMemory}
 use Rattle.shard_store.specs.declared.replay.Replay.{Replay}
 use Rattle.shard_store.specs.Legal.{IsLogOf, IsNoNext, MayFollow, MayAllFollow}
-use Rattle.shard_store.specs.Stores.{LacksGate, HasBadBody, HasBadLength, HasBadGate, HasNo, IsWhole, OneCounts, bodies_of}
+use Rattle.shard_store.specs.Stores.{LacksGate, HasBadBody, EndsWithBadLength, HasBadGate, HasNo, IsWhole, OneCounts, bodies_of}
 use Rattle.shard_store.specs.Reads.{ReadsAreas, ReadsLog, ShowsLog}
 
 -- a list around one of its items
@@ -51,7 +51,7 @@ no_bad_gate area log whole other place = ⊎_elim
     (λ (bad : HasBadBody area place).
     let next = may_come bad.log log bad.before bad.after bad.body [] bad.stands.are (ap (map reading) (sym bad.are) ∙ whole.are) whole.legal in
     bad.no_next next.0 next.1 next.2)
-    (λ (bad : HasBadLength area place). other bad.ending)
+    (λ (bad : EndsWithBadLength area place). other bad.ending)
 
 closed_end : (ending : Ending) → ending ≢ Unreadable → ending ≢ Missing → ending ≡ Closed
 closed_end Closed other more = refl

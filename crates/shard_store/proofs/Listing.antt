@@ -17,7 +17,8 @@ use Rattle.std.proofs.lemmas.Map.Lookups.{exact_bytes}
 use Rattle.nats_text.specs.declared.origin.Origin.{Origin}
 use Rattle.stream_fold.specs.declared.entry.Numbered.{Numbered}
 use Rattle.stream_fold.specs.Histories.{History, kept}
-use Rattle.stream_fold.specs.Held.{Held}
+use Rattle.stream_fold.specs.Copying.{mark}
+use Rattle.stream_fold.specs.declared.config.Config.{Config}
 use Rattle.record_codec.specs.declared.records.Rec.{Rec}
 use Rattle.shard_store.specs.declared.facts.CopyFact.{CopyFact}
 use Rattle.shard_store.specs.declared.facts.Facts.{Facts}
@@ -25,19 +26,19 @@ use Rattle.shard_store.specs.declared.replay.Known.{Known}
 use Rattle.shard_store.specs.declared.replay.Standing.{Standing}
 use Rattle.shard_store.specs.declared.replay.Replay.{Replay}
 use Rattle.shard_store.specs.Logs.{Made, Named, named, live, by_incarnation}
-use Rattle.shard_store.specs.Streams.{copy_fact, copy_facts, facts_of, IsShown, name_of, AreStreams}
+use Rattle.shard_store.specs.Streams.{copy_fact, source_facts, facts_of, IsShown, name_of, AreStreams}
 use Rattle.shard_store.specs.Replays.{found, StandsAs, StandsIf, Knows, IsReplayOf}
 use Rattle.shard_store.specs.Reads.{AddsShown}
 
--- one fact more of the copies
-pub facts_on : (h : History) (facts new all : List CopyFact) (fact : CopyFact) (origins : List Origin) (i : ℕ) (o : Origin) → i < length origins → o ≡ get_or origins i o → fact ≡ copy_fact h i o → new ≡ facts ++ fact ∷ [] → facts ++ copy_facts h i (drop i origins) ≡ all → new ++ copy_facts h (i + 1) (drop (i + 1) origins) ≡ all
+-- one fact more of the sources
+pub facts_on : (h : History) (facts new all : List CopyFact) (fact : CopyFact) (origins : List Origin) (i : ℕ) (o : Origin) → i < length origins → o ≡ get_or origins i o → fact ≡ copy_fact (mark i h) o → new ≡ facts ++ fact ∷ [] → facts ++ source_facts h i (drop i origins) ≡ all → new ++ source_facts h (i + 1) (drop (i + 1) origins) ≡ all
 facts_on h facts new all fact origins i o within is fact_is new_is before =
-    let left = copy_facts h (i + 1) (drop (i + 1) origins) in
+    let left = source_facts h (i + 1) (drop (i + 1) origins) in
     let here : drop i origins ≡ o ∷ drop (i + 1) origins = rw add-one (drop-cons origins i o within ∙ ap (λ (x : Origin). x ∷ drop (suc i) origins) (sym is)) in
     ap (λ (l : List CopyFact). l ++ left) new_is
     ∙ append_assoc facts (fact ∷ []) left
     ∙ ap (λ (x : CopyFact). facts ++ x ∷ left) fact_is
-    ∙ sym (ap (λ (l : List Origin). facts ++ copy_facts h i l) here)
+    ∙ sym (ap (λ (l : List Origin). facts ++ source_facts h i l) here)
     ∙ before
 
 -- ---- the names of the streams that stand
@@ -113,7 +114,7 @@ live_is log name standing s =
 
 shown_is : (log : List Rec) (name : List ℕ) (incarnation : ℕ) (standing : Standing) (shown : Facts × List Numbered) → incarnation ≡ length (named log name).made → (s : StandsAs name standing (named log name)) → shown ≡ (facts_of incarnation s.latest, kept s.latest.history) → (name_of shown ≡ name) × IsShown log (name_of shown) shown
 shown_is log name incarnation standing shown number s is =
-    let called : name_of shown ≡ name = ap name_of is ∙ sym (ap (λ (h : Held). h.limits.name) s.state) ∙ s.name_is in
+    let called : name_of shown ≡ name = ap name_of is ∙ sym (ap (λ (c : Config). c.name) s.state.limits) ∙ s.name_is in
     (called, subst (λ (k : List ℕ). IsShown log k shown) (sym called) (s.latest, live_is log name standing s, is ∙ ap (λ (i : ℕ). (facts_of i s.latest, kept s.latest.history)) number))
 
 -- ---- the walk

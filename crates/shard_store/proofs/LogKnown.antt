@@ -6,8 +6,11 @@ use Rattle.std.specs.Str.{bytes_eq}
 use Rattle.stream_fold.specs.declared.config.Config.{Config}
 use Rattle.stream_fold.specs.declared.entry.Entry.{Entry}
 use Rattle.stream_fold.specs.Checking.{config_fault}
-use Rattle.stream_fold.specs.Histories.{History, with_entry}
-use Rattle.stream_fold.specs.Held.{Held, State, StandsFor, Fits, held_of}
+use Rattle.stream_fold.specs.declared.entry.Entry.TheVariants.{Put, Del, Purge, Expire, Bind, Limits}
+use Rattle.stream_fold.specs.Histories.{History, Folded, with_entry, stands, standing, after, limits_after}
+use Rattle.stream_fold.specs.Fits.{Fits}
+use Rattle.stream_fold.specs.Held.{Held, State, StandsFor, repeated_in}
+use Rattle.stream_fold.specs.Copying.{binding_at, mark_in}
 use Rattle.nats_text.specs.declared.fault.NoMemory.{NoMemory}
 use Rattle.record_codec.specs.declared.records.Rec.{Rec}
 use Rattle.record_codec.specs.declared.records.Rec.TheVariants.{Boot, Create, Remove, Of}
@@ -144,7 +147,7 @@ takes_create old new log time config n state is begun faultless next stands b pu
           here = refl;
           created = refl;
           state = stands;
-          name_is = ap (λ (h : Held). h.limits.name) stands;
+          name_is = ap (λ (c : Config). c.name) stands.limits;
         },
       )),
 )
@@ -154,11 +157,44 @@ takes_create old new log time config n state is begun faultless next stands b pu
 
 -- ---- changes of a stream
 
+standing-snoc : (k : Folded) (es : List Entry) (e : Entry) → standing k (es ++ e ∷ []) ≡ after (standing k es) e
+standing-snoc k [] e = refl
+standing-snoc k (x ∷ es) e = standing-snoc (after k x) es e
+
+name_after : (h : History) (e : Entry) → Fits h e → (limits_after (stands h).limits e).name ≡ (stands h).limits.name
+name_after h (Put number message mark) fits = refl
+name_after h (Del number) fits = refl
+name_after h (Purge pattern below) fits = refl
+name_after h (Expire now) fits = refl
+name_after h (Bind index incarnation start) fits = refl
+name_after h (Limits config) fits = fits.name
+
+-- an entry that fits leaves the name
+keeps_name : (h : History) (e : Entry) → Fits h e → (stands (with_entry h e)).limits.name ≡ (stands h).limits.name
+keeps_name h e fits = ap (λ (f : Folded). f.limits.name) (standing-snoc (record { limits = h.config; rows = [] }) h.entries e) ∙ name_after h e fits
+
+-- a state in which the same is looked up stands for the same history
+pub stands_still : (old new : State) (h : History) → new.held ≡ old.held → StandsFor old h → StandsFor new h
+stands_still old new h same s = record {
+  limits = ap (λ (k : Held). k.limits) same ∙ s.limits;
+  window = ap (λ (k : Held). k.window) same ∙ s.window;
+  rows = ap (λ (k : Held). k.rows) same ∙ s.rows;
+  last = ap (λ (k : Held). k.last) same ∙ s.last;
+  clock = ap (λ (k : Held). k.clock) same ∙ s.clock;
+  bound = λ index. ap (λ (k : Held). binding_at index k.bindings) same ∙ s.bound index;
+  marks = λ index. ap (λ (k : Held). mark_in index k.marks) same ∙ s.marks index;
+  repeats = λ id now. ap (λ (k : Held). repeated_in k (Some id) now) same ∙ s.repeats id now;
+}
+
+-- what is held of a name that has a stream stands for a history
+pub some_history : (log : List Rec) (name : List ℕ) (standing : Standing) → StandsAs name standing (named log name) → (h : History) × StandsFor standing.state h
+some_history log name standing s = (s.latest.history, s.state)
+
 -- an entry may come next and is taken, or it may not
-abbrev pub Changes : Standing → Standing → Entry → Bool → Type 0
-Changes old new entry taken = MatchBool taken
-    (Fits old.state.held entry × HasFaultless entry × (new.created ≡ old.created) × (new.state.held.limits.name ≡ old.state.held.limits.name) × ((h : History) → StandsFor old.state h → StandsFor new.state (with_entry h entry)))
-    (Fits old.state.held entry → HasFaultless entry → ⊥)
+abbrev pub Changes : History → Standing → Standing → Entry → Bool → Type 0
+Changes h old new entry taken = MatchBool taken
+    (Fits h entry × HasFaultless entry × (new.created ≡ old.created) × StandsFor new.state (with_entry h entry))
+    (Fits h entry → HasFaultless entry → ⊥)
 
 -- an entry may come next in the stream that stands under the name and is taken, or it may not
 abbrev pub ChangesKnown : List Rec → List ℕ → Known → Entry → Bool → Type 0
@@ -166,8 +202,8 @@ ChangesKnown log name new entry taken = MatchBool taken
     ((made : Made) × (live log name ≡ Some made) × MayChange entry made × Knows name (Some new) (named (log ++ Of name entry ∷ []) name))
     ((made : Made) → live log name ≡ Some made → MayChange entry made → ⊥)
 
-changed : (log : List Rec) (name : List ℕ) (old new : Standing) (n : ℕ) (entry : Entry) → n ≡ length (named log name).made → StandsAs name old (named log name)
-    → Changes old new entry true → Knows name (Some (record { incarnation = n; stream = Some new })) (named (log ++ Of name entry ∷ []) name)
+changed : (log : List Rec) (name : List ℕ) (old new : Standing) (n : ℕ) (entry : Entry) → n ≡ length (named log name).made → (s : StandsAs name old (named log name))
+    → Changes s.latest.history old new entry true → Knows name (Some (record { incarnation = n; stream = Some new })) (named (log ++ Of name entry ∷ []) name)
 changed log name old new n entry count s did = rw (named_after-snoc name _ log (Of name entry), eq_true name, s.are) (
   rw (s.are, length-snoc) at count ∙ sym (ap length (to_last-snoc entry s.earlier s.latest) ∙ length-snoc s.earlier (with_change entry s.latest)),
   record {
@@ -176,20 +212,20 @@ changed log name old new n entry count s did = rw (named_after-snoc name _ log (
     are = to_last-snoc entry s.earlier s.latest;
     here = s.here;
     created = did.2 ∙ s.created;
-    state = did.4 s.latest.history s.state;
-    name_is = did.3 ∙ s.name_is;
+    state = did.3;
+    name_is = ap (λ (c : Config). c.name) did.3.limits ∙ keeps_name s.latest.history entry did.0 ∙ sym (ap (λ (c : Config). c.name) s.state.limits) ∙ s.name_is;
   },
 )
 
-change_known : (log : List Rec) (name : List ℕ) (old new : Standing) (n : ℕ) (entry : Entry) (taken : Bool) → n ≡ length (named log name).made → StandsAs name old (named log name)
-    → Changes old new entry taken → ChangesKnown log name (record { incarnation = n; stream = Some new }) entry taken
-change_known log name old new n entry true count s did = (s.latest, one_live log name old s, record { fits = subst (λ (h : Held). Fits h entry) s.state did.0; faultless = did.1 }, changed log name old new n entry count s did)
+change_known : (log : List Rec) (name : List ℕ) (old new : Standing) (n : ℕ) (entry : Entry) (taken : Bool) → n ≡ length (named log name).made → (s : StandsAs name old (named log name))
+    → Changes s.latest.history old new entry taken → ChangesKnown log name (record { incarnation = n; stream = Some new }) entry taken
+change_known log name old new n entry true count s did = (s.latest, one_live log name old s, record { fits = did.0; faultless = did.1 }, changed log name old new n entry count s did)
 change_known log name old new n entry false count s did = λ made is may.
     let e : s.latest ≡ made = let one = one_live log name old s in cc in
-    did (subst (λ (h : Held). Fits h entry) (sym s.state ∙ refl) (subst (λ (m : Made). Fits (held_of m.history) entry) (sym e) may.fits)) may.faultless
+    did (subst (λ (m : Made). Fits m.history entry) (sym e) may.fits) may.faultless
 
-pub changes_known : (log : List Rec) (name : List ℕ) (old new : Standing) (n : ℕ) (entry : Entry) (result : Result Bool NoMemory) → n ≡ length (named log name).made → StandsAs name old (named log name)
-    → IfOk result (Changes old new entry) → IfOk result (ChangesKnown log name (record { incarnation = n; stream = Some new }) entry)
+pub changes_known : (log : List Rec) (name : List ℕ) (old new : Standing) (n : ℕ) (entry : Entry) (result : Result Bool NoMemory) → n ≡ length (named log name).made → (s : StandsAs name old (named log name))
+    → IfOk result (Changes s.latest.history old new entry) → IfOk result (ChangesKnown log name (record { incarnation = n; stream = Some new }) entry)
 changes_known log name old new n entry (Ok taken) count s did = change_known log name old new n entry taken count s did
 changes_known log name old new n entry (Err fault) count s did = tt
 

@@ -4,7 +4,7 @@ use Rattle.stream_fold.specs.declared.config.Config.{Config}
 use Rattle.stream_fold.specs.declared.entry.Entry.{Entry}
 use Rattle.stream_fold.specs.declared.entry.Entry.TheVariants.{Put, Del, Purge, Expire, Bind, Limits}
 use Rattle.stream_fold.specs.Checking.{config_fault}
-use Rattle.stream_fold.specs.Held.{Fits, held_of}
+use Rattle.stream_fold.specs.Fits.{Fits}
 use Rattle.record_codec.specs.declared.records.Rec.{Rec}
 use Rattle.record_codec.specs.declared.records.Rec.TheVariants.{Boot, Create, Remove, Of}
 use Rattle.record_codec.specs.Reading.{reading}
@@ -21,7 +21,7 @@ HasFaultless (Limits config) = config_fault config ≡ None
 
 -- the entry may come next in the history of this stream
 pub record MayChange (entry : Entry) (made : Made) : Type 0 where
-  pub fits : Fits (held_of made.history) entry
+  pub fits : Fits made.history entry
   pub faultless : HasFaultless entry
 
 -- a stream may be made: none stands under the name, its configuration is one that a stream may have, and its incarnation

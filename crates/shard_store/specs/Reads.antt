@@ -1,6 +1,6 @@
 -- What the parts of a store's reading answer.
 use Rattle.std.specs.Prelude.{◌≡◌, ◌≢◌, ◌≤◌, ◌<◌, ℕ, List, [], ◌∷◌, ◌++◌, length, Option, None, Some, Result, Ok, Err, ⊤}
-use Rattle.leaf_edges.specs.Causes.{Rose}
+use Rattle.leaf_edges.specs.Causes.{RoseByOne}
 use Rattle.gate_journal.specs.Areas.{AreaState, Holds, no_area, IsHeadless, max_area}
 use Rattle.gate_journal.specs.declared.area.Ending.TheVariants.{Unreadable}
 use Rattle.stream_fold.specs.declared.entry.Numbered.{Numbered}
@@ -34,10 +34,10 @@ abbrev pub FindsSpare : Option (List ℕ) → Result (Option AreaState) StoreFau
 FindsSpare None result = result ≡ Ok (Some no_area)
 FindsSpare (Some c) result = FindsArea Spare c result
 
--- a fault of reading comes only where the count rose, and every other answer leaves it
+-- a fault of reading comes only where the count went up by one, and every other answer leaves it
 abbrev pub FindCauses : {T : Type 0} → ℕ → ℕ → Result T StoreFault → Type 0
 FindCauses before now (Ok value) = now ≡ before
-FindCauses before now (Err ReadFault) = Rose before now
+FindCauses before now (Err ReadFault) = RoseByOne before now
 FindCauses before now (Err (BadJournal part place)) = now ≡ before
 FindCauses before now (Err (TooLong part len)) = now ≡ before
 FindCauses before now (Err NoMemory) = now ≡ before
@@ -45,7 +45,7 @@ FindCauses before now (Err NoMemory) = now ≡ before
 -- the same of a spare
 abbrev pub SpareCauses : {D T : Type 0} → (D → ℕ) → Option D → Option D → Result T StoreFault → Type 0
 SpareCauses faults old new (Ok value) = OnSpares (λ s t. faults t ≡ faults s) old new
-SpareCauses faults old new (Err ReadFault) = SpareHas (λ s t. Rose (faults s) (faults t)) old new
+SpareCauses faults old new (Err ReadFault) = SpareHas (λ s t. RoseByOne (faults s) (faults t)) old new
 SpareCauses faults old new (Err (BadJournal part place)) = OnSpares (λ s t. faults t ≡ faults s) old new
 SpareCauses faults old new (Err (TooLong part len)) = OnSpares (λ s t. faults t ≡ faults s) old new
 SpareCauses faults old new (Err NoMemory) = OnSpares (λ s t. faults t ≡ faults s) old new

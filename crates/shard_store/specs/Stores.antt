@@ -1,6 +1,6 @@
 -- What the two disks of a shard stand for, and the first thing that is wrong with them.
 use Rattle.std.specs.Prelude.{◌≡◌, ◌⊎◌, ℕ, ◌<◌, ◌≤◌, nat_lt, true, false, not, ◌&&◌, ◌||◌, if◌then◌else◌, List, ◌∷◌, ◌++◌, length, Option, None, Some, Result, Ok, Err, ⊤}
-use Rattle.leaf_edges.specs.Causes.{Rose}
+use Rattle.leaf_edges.specs.Causes.{RoseByOne}
 use Rattle.gate_journal.specs.Areas.{AreaState, Holds, no_area, IsHeadless, max_area, end_of}
 use Rattle.gate_journal.specs.declared.area.Ending.TheVariants.{Closed, Missing, Unreadable}
 use Rattle.stream_fold.specs.declared.entry.Numbered.{Numbered}
@@ -60,7 +60,7 @@ pub record HasBadBody (area : AreaState) (place : ℕ) : Type 0 where
   pub place_is : place ≡ end_of before
 
 -- all bodies are a log, and behind an open gate no body can be read
-pub record HasBadLength (area : AreaState) (place : ℕ) : Type 0 where
+pub record EndsWithBadLength (area : AreaState) (place : ℕ) : Type 0 where
   pub log : List Rec
   pub stands : IsLogOf log area.bodies
   pub ending : area.ending ≡ Unreadable
@@ -68,7 +68,7 @@ pub record HasBadLength (area : AreaState) (place : ℕ) : Type 0 where
 
 -- the least place of an open gate behind which there is no record that may follow
 abbrev pub HasBadGate : AreaState → ℕ → Type 0
-HasBadGate area place = HasBadBody area place ⊎ HasBadLength area place
+HasBadGate area place = HasBadBody area place ⊎ EndsWithBadLength area place
 
 -- neither of two areas counts: place 8 of the first
 abbrev pub CountsNot : AreaState → AreaState → Part → ℕ → Type 0
@@ -135,11 +135,12 @@ SpareHas P (Some old) (Some new) = P old new
 SpareHas P None (Some new) = ⊥
 SpareHas P (Some old) None = ⊥
 
--- a fault of reading comes only where the count of one disk rose, and every other answer leaves the counts
+-- a fault of reading comes only where the count of one disk went up by one, and leaves that of the other; every other answer
+-- leaves both
 abbrev pub StoreCauses : {D T : Type 0} → (D → ℕ) → D → D → Option D → Option D → Result T StoreFault → Type 0
 StoreCauses faults old new spare spare' (Ok value) = (faults new ≡ faults old) × OnSpares (λ s t. faults t ≡ faults s) spare spare'
-StoreCauses faults old new spare spare' (Err ReadFault) = (Rose (faults old) (faults new) × OnSpares (λ s t. faults t ≡ faults s) spare spare')
-    ⊎ ((faults new ≡ faults old) × SpareHas (λ s t. Rose (faults s) (faults t)) spare spare')
+StoreCauses faults old new spare spare' (Err ReadFault) = (RoseByOne (faults old) (faults new) × OnSpares (λ s t. faults t ≡ faults s) spare spare')
+    ⊎ ((faults new ≡ faults old) × SpareHas (λ s t. RoseByOne (faults s) (faults t)) spare spare')
 StoreCauses faults old new spare spare' (Err (BadJournal part place)) = (faults new ≡ faults old) × OnSpares (λ s t. faults t ≡ faults s) spare spare'
 StoreCauses faults old new spare spare' (Err (TooLong part len)) = (faults new ≡ faults old) × OnSpares (λ s t. faults t ≡ faults s) spare spare'
 StoreCauses faults old new spare spare' (Err NoMemory) = (faults new ≡ faults old) × OnSpares (λ s t. faults t ≡ faults s) spare spare'

@@ -8,26 +8,27 @@ use Rattle.stream_fold.specs.declared.config.Copies.{Copies}
 use Rattle.stream_fold.specs.declared.config.Copies.TheVariants.{Nothing, Mirror, Sources}
 use Rattle.stream_fold.specs.declared.entry.Numbered.{Numbered}
 use Rattle.stream_fold.specs.Histories.{History, stands, kept, last, size_of}
-use Rattle.stream_fold.specs.Copying.{mark}
+use Rattle.stream_fold.specs.Copying.{front, mark}
 use Rattle.stream_fold.specs.Held.{first_of}
 use Rattle.record_codec.specs.declared.records.Rec.{Rec}
 use Rattle.shard_store.specs.declared.facts.CopyFact.{CopyFact}
 use Rattle.shard_store.specs.declared.facts.Facts.{Facts}
 use Rattle.shard_store.specs.Logs.{Made, incarnation, live}
 
--- the streams that are copied, in the order of their indexes
-abbrev pub origins : Copies → List Origin
-origins Nothing = []
-origins (Mirror origin) = origin ∷ []
-origins (Sources wants) = wants
+-- the copy of an origin has come as far as this number
+abbrev pub copy_fact : ℕ → Origin → CopyFact
+copy_fact mark origin = record { node = origin.node; stream = origin.stream; mark = mark; stopped = None; consumer = None }
 
--- how far the copy of this index has come
-abbrev pub copy_fact : History → ℕ → Origin → CopyFact
-copy_fact h index origin = record { node = origin.node; stream = origin.stream; mark = mark index h; stopped = None; consumer = None }
+-- each source from an index on has come as far as the mark of its index
+abbrev pub source_facts : History → ℕ → List Origin → List CopyFact
+source_facts h index [] = []
+source_facts h index (origin ∷ origins) = copy_fact (mark index h) origin ∷ source_facts h (index + 1) origins
 
-abbrev pub copy_facts : History → ℕ → List Origin → List CopyFact
-copy_facts h index [] = []
-copy_facts h index (origin ∷ origins) = copy_fact h index origin ∷ copy_facts h (index + 1) origins
+-- how far each copy has come; a mirror's messages have no marks, so that it has come as far as its front
+abbrev pub copy_facts : History → Copies → List CopyFact
+copy_facts h Nothing = []
+copy_facts h (Mirror origin) = copy_fact (front origin.start h.entries) origin ∷ []
+copy_facts h (Sources origins) = source_facts h 0 origins
 
 -- the facts of a stream of this incarnation
 abbrev pub facts_of : ℕ → Made → Facts
@@ -40,7 +41,7 @@ facts_of incarnation m = record {
   count = length (kept m.history);
   bytes = size_of (kept m.history);
   consumers = 0;
-  copies = copy_facts m.history 0 (origins (stands m.history).limits.copies);
+  copies = copy_facts m.history (stands m.history).limits.copies;
 }
 
 -- the facts and the messages that are kept of a stream that stands under the name

@@ -8,7 +8,9 @@ pub struct CopyFact {
     pub node: Option<Name>,
     /// The name of the stream that is copied.
     pub stream: Name,
-    /// The number in the origin up to which it was copied.
+    /// The number in the origin up to which it was copied. Of a source it is the mark of its last
+    /// message. The messages of a mirror have no marks but the origin's numbers, so of a mirror it is its
+    /// last number. Before the first message it is the number before the start.
     pub mark: u64,
     /// Where the copy stopped because the origin isn't the one that it began with: the incarnation that
     /// it is bound to, and the one that it saw.

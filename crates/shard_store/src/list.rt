@@ -1,18 +1,19 @@
-ghost use Rattle.std.specs.Prelude.{◌≡◌, List as Items, IfOk, OnOk};
+ghost use Rattle.std.specs.Prelude.{◌≡◌, ◌<◌, ◌∷◌, [], List as Items, IfOk, OnOk};
 ghost use Rattle.stream_fold.specs.Histories.{History, stands};
+ghost use Rattle.stream_fold.specs.Copying.{front, start_by};
 ghost use Rattle.stream_fold.specs.Held.{StandsFor};
 ghost use Rattle.record_codec.specs.declared.records.Rec.{Rec as Record};
 ghost use Rattle.shard_store.specs.Logs.{Made};
 ghost use Rattle.shard_store.specs.Legal.{IsLegal};
 ghost use Rattle.shard_store.specs.Replays.{IsReplayOf};
-ghost use Rattle.shard_store.specs.Streams.{AreStreams, origins, copy_fact, copy_facts, facts_of};
+ghost use Rattle.shard_store.specs.Streams.{AreStreams, copy_fact, copy_facts, facts_of, source_facts};
 ghost use Rattle.shard_store.specs.Reads.{IsMade, Shows, AddsShown};
 
 use crate::replay::{Known, Replay, Standing};
 use crate::{CopyFact, Facts};
-use nats_text::{List, NoMemory, Origin};
+use nats_text::{List, NoMemory, Origin, Start};
 use std::alloc::Global;
-use stream_fold::{Copies, Numbered, StreamState};
+use stream_fold::{BoundTo, Copies, Numbered, StreamState};
 
 /// The streams that stand at a log's end, in byte order of their names.
 pub(crate) fn streams(
@@ -76,38 +77,67 @@ fn facts_of(alloc: Global, incarnation: u64, standing: &Standing) -> Result<Fact
 
 /// How far each copy has come, in the order of the configuration.
 fn copies_of(alloc: Global, state: &StreamState) -> Result<List<CopyFact>, NoMemory>
-    ensures { (h : History) → StandsFor state.now h → IfOk result (λ copies. copies ≡ copy_facts h 0 (origins (stands h).limits.copies)) }
+    ensures { (h : History) → StandsFor state.now h → IfOk result (λ copies. copies ≡ copy_facts h (stands h).limits.copies) }
+{
+    match &state.config().copies {
+        Copies::Nothing => Ok(List::new(alloc)),
+        Copies::Mirror(origin) => mirror_of(alloc, state, origin),
+        Copies::Sources(origins) => sources_of(alloc, state, origins.as_slice()),
+    }
+}
+
+/// How far a mirror has come.
+fn mirror_of(
+    alloc: Global,
+    state: &StreamState,
+    origin: &Origin,
+) -> Result<List<CopyFact>, NoMemory>
+    ensures { (h : History) → StandsFor state.now h → IfOk result (λ copies. copies ≡ copy_fact (front origin.now.start h.entries) origin.now ∷ []) }
+{
+    let start = start_of(state.bound(0), origin.start);
+    let mut facts = List::new(alloc);
+    facts.push(copy_fact(state.last().max(start - 1), origin)?)?;
+    Ok(facts)
+}
+
+/// Where a copy starts: at the number of its binding, and before it at the configured one.
+fn start_of(bound: Option<BoundTo>, start: Start) -> u64
+    ensures value { result ≡ start_by bound start }
+    ensures positive { 0 < result }
+{
+    match (bound, start) {
+        (Some(to), _) => to.start.max(1),
+        (None, Start::Seq(seq)) => seq.max(1),
+        (None, Start::Time(_)) => 1,
+    }
+}
+
+/// How far each source has come, in the order of the configuration. An index of `2^32` or more, which
+/// no legal configuration has, is answered as want of memory.
+fn sources_of(
+    alloc: Global,
+    state: &StreamState,
+    origins: &[Origin],
+) -> Result<List<CopyFact>, NoMemory>
+    ensures { (h : History) → StandsFor state.now h → IfOk result (λ copies. copies ≡ source_facts h 0 origins.now) }
 {
     let mut facts = List::new(alloc);
-    for (index, origin) in origins(&state.config().copies).iter().enumerate() {
-        facts.push(copy_of(state, index, origin)?)?;
+    for (index, origin) in origins.iter().enumerate() {
+        let Ok(number) = u32::try_from(index) else {
+            return Err(NoMemory);
+        };
+        facts.push(copy_fact(state.mark(number), origin)?)?;
     }
     Ok(facts)
 }
 
-/// The streams that are copied, in the order of their indexes.
-fn origins(copies: &Copies) -> &[Origin]
-    ensures { result.now ≡ origins copies.now }
+fn copy_fact(mark: u64, origin: &Origin) -> Result<CopyFact, NoMemory>
+    ensures { IfOk result (λ fact. fact ≡ copy_fact mark origin.now) }
 {
-    match copies {
-        Copies::Nothing => &[],
-        Copies::Mirror(origin) => std::slice::from_ref(origin),
-        Copies::Sources(origins) => origins.as_slice(),
-    }
-}
-
-/// How far the copy of an index has come. An index of 2^32 or more, which no legal configuration has,
-/// is answered as want of memory.
-fn copy_of(state: &StreamState, index: usize, origin: &Origin) -> Result<CopyFact, NoMemory>
-    ensures { (h : History) → StandsFor state.now h → IfOk result (λ fact. fact ≡ copy_fact h index origin.now) }
-{
-    let Ok(number) = u32::try_from(index) else {
-        return Err(NoMemory);
-    };
     Ok(CopyFact {
         node: origin.node.clone()?,
         stream: origin.stream.clone()?,
-        mark: state.mark(number),
+        mark,
         stopped: None,
         consumer: None,
     })

@@ -39,6 +39,8 @@ pub fn read_streams<D: Disk>(
     ensures spare_same { D.tells → OnSpares (Unchanged D.seen D.images D.unsynced D.done D.failed) spare.old spare.new }
     ensures spare_time { D.tells → OnSpares (Elapses D.moment D.left_since D.images) spare.old spare.new }
     ensures cause { StoreCauses D.faults disk.old disk.new spare.old spare.new result }
+    ensures leads { D.leads disk.old disk.new }
+    ensures spare_leads { OnSpares D.leads spare.old spare.new }
 {
     let main = area_of(alloc, disk, Part::Main)?;
     let other = spare_area(alloc, spare)?;
@@ -51,6 +53,7 @@ fn area_of<D: Disk>(alloc: Global, disk: &mut D, part: Part) -> Result<Option<Ar
     ensures same { D.tells → Unchanged D.seen D.images D.unsynced D.done D.failed disk.old disk.new }
     ensures time { D.tells → Elapses D.moment D.left_since D.images disk.old disk.new }
     ensures cause { FindCauses (D.faults disk.old) (D.faults disk.new) result }
+    ensures leads { D.leads disk.old disk.new }
 {
     match Area::read(alloc, disk) {
         Ok(area) => Ok(area),
@@ -68,6 +71,7 @@ fn spare_area<D: Disk>(alloc: Global, spare: &mut Option<D>) -> Result<Option<Ar
     ensures same { D.tells → OnSpares (Unchanged D.seen D.images D.unsynced D.done D.failed) spare.old spare.new }
     ensures time { D.tells → OnSpares (Elapses D.moment D.left_since D.images) spare.old spare.new }
     ensures cause { SpareCauses D.faults spare.old spare.new result }
+    ensures leads { OnSpares D.leads spare.old spare.new }
 {
     match spare {
         None => Ok(Some(Area::absent(alloc))),

@@ -2,7 +2,8 @@ ghost use Rattle.std.specs.Prelude.{◌≡◌, ◌≤◌, ◌<◌, ◌+◌, ◌^
 ghost use Rattle.std.specs.Str.{bytes_eq};
 ghost use Rattle.stream_fold.specs.Checking.{config_fault};
 ghost use Rattle.stream_fold.specs.Histories.{History, with_entry};
-ghost use Rattle.stream_fold.specs.Held.{Fits, StandsFor};
+ghost use Rattle.stream_fold.specs.Fits.{Fits};
+ghost use Rattle.stream_fold.specs.Held.{StandsFor};
 ghost use Rattle.record_codec.specs.declared.records.Rec.{Rec as Record};
 ghost use Rattle.record_codec.specs.Reading.{reading};
 ghost use Rattle.shard_store.specs.Logs.{Made, boot, incarnation, live, named};
@@ -61,6 +62,7 @@ impl Replay {
 
     /// Takes the next record, and answers `false` where it may not follow.
     fn take(&mut self, it: Rec) -> Result<bool, NoMemory>
+        requires { (log : Items Record) × IsReplayOf self.old log }
         ensures { (log : Items Record) → IsLegal log → IsReplayOf self.old log → Takes log it self.new result }
     {
         match it {
@@ -134,6 +136,7 @@ impl Replay {
     }
 
     fn take_change(&mut self, name: &Name, entry: Entry) -> Result<bool, NoMemory>
+        requires { (log : Items Record) × IsReplayOf self.old log }
         ensures { (log : Items Record) → IsLegal log → IsReplayOf self.old log → Takes log (Record.Of name.now entry) self.new result }
     {
         if self.boot == 0 {
@@ -147,6 +150,7 @@ impl Replay {
 
     /// Takes the record that the body spells, and answers `false` where it spells none that may follow.
     fn take_body(&mut self, body: &[u8]) -> Result<bool, NoMemory>
+        requires { (log : Items Record) × IsReplayOf self.old log }
         ensures { (log : Items Record) → IsLegal log → IsReplayOf self.old log → IfOk result (λ taken. MatchBool taken ((it : Record) × (reading body.now ≡ Ok it) × MayFollow log it × IsReplayOf self.new (log ++ it ∷ [])) (IsNoNext log body.now)) }
     {
         match decode(self.alloc, body) {
@@ -179,6 +183,7 @@ impl Known {
 
     /// Takes an entry of the stream that stands, and answers `false` where it may not come next.
     fn change(&mut self, alloc: Global, entry: Entry) -> Result<bool, NoMemory>
+        requires { (log : Items Record) × (name : Items ℕ) × Knows name (Some self.old) (named log name) }
         ensures { (log : Items Record) (name : Items ℕ) → Knows name (Some self.old) (named log name) → IfOk result (λ taken. MatchBool taken ((made : Made) × (live log name ≡ Some made) × MayChange entry made × Knows name (Some self.new) (named (log ++ Record.Of name entry ∷ []) name)) ((made : Made) → live log name ≡ Some made → MayChange entry made → ⊥)) }
     {
         match &mut self.stream {
@@ -191,7 +196,8 @@ impl Known {
 impl Standing {
     /// Takes an entry, and answers `false` where it may not come next.
     fn change(&mut self, alloc: Global, entry: Entry) -> Result<bool, NoMemory>
-        ensures { IfOk result (λ taken. MatchBool taken (Fits self.old.state.held entry × HasFaultless entry × (self.new.created ≡ self.old.created) × (self.new.state.held.limits.name ≡ self.old.state.held.limits.name) × ((h : History) → StandsFor self.old.state h → StandsFor self.new.state (with_entry h entry))) (Fits self.old.state.held entry → HasFaultless entry → ⊥)) }
+        requires { (h : History) × StandsFor self.old.state h }
+        ensures { (h : History) → StandsFor self.old.state h → IfOk result (λ taken. MatchBool taken (Fits h entry × HasFaultless entry × (self.new.created ≡ self.old.created) × StandsFor self.new.state (with_entry h entry)) (Fits h entry → HasFaultless entry → ⊥)) }
     {
         if !self.state.fits(&entry) || !has_faultless(alloc, &entry)? {
             return Ok(false);

@@ -5,6 +5,9 @@ use Rattle.shard_store.proofs.replay.read_log.Goals as goal
 pub loop-index-init : goal.loop-index-init
 loop-index-init c = ([], record { are = refl; legal = tt }, c.new-replay.ensures)
 
+pub take_body-requires : goal.take_body-requires
+take_body-requires c = (c.loop-index.invariant.0, c.loop-index.invariant.2)
+
 pub loop-index-preserved : goal.loop-index-preserved
 loop-index-preserved c =
     let so_far = c.loop-index.invariant in

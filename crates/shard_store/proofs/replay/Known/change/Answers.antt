@@ -3,4 +3,5 @@ use Rattle.shard_store.proofs.replay.Known.change.Goals as goal
 
 pub returns-in-Some : goal.returns-in-Some
 returns-in-Some c = λ log name k.
-    changes_known log name c.in-Some.standing c.change.new.self c.args.self.now.incarnation c.args.entry c.change.result k.0 (rw c.in-Some.is at k.1) c.change.ensures
+    let s = rw c.in-Some.is at k.1 in
+    changes_known log name c.in-Some.standing c.change.new.self c.args.self.now.incarnation c.args.entry c.change.result k.0 s (c.change.ensures s.latest.history s.state)

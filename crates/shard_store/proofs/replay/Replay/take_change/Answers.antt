@@ -2,8 +2,14 @@ use Rattle.std.proofs.Common.{refl, sym, arith, ◌≡◌, ◌≤◌, Some}
 use Rattle.shard_store.specs.Logs.{boot}
 use Rattle.shard_store.specs.Replays.{found}
 use Rattle.shard_store.proofs.MapSteps.{writes}
-use Rattle.shard_store.proofs.LogKnown.{takes_change}
+use Rattle.shard_store.proofs.LogKnown.{at_found, takes_change}
 use Rattle.shard_store.proofs.replay.Replay.take_change.Goals as goal
+
+pub change-requires : goal.change-requires
+change-requires c =
+    let held = c.requires in
+    let here : found c.args.name.now c.args.self.now.names ≡ Some c.in-Some.known.now = rw (← c.bytes.ensures.value) (sym c.in-Some.ensures.value) in
+    (held.0, c.args.name.now, at_found c.args.self.now held.0 c.args.name.now (Some c.in-Some.known.now) held.1 here)
 
 pub returns-in-Some : goal.returns-in-Some
 returns-in-Some c = λ log legal is.

@@ -5,6 +5,7 @@ mod decoding;
 mod encoding;
 mod fault;
 mod fields;
+mod items;
 pub mod laws;
 mod reading;
 mod records;

@@ -1,54 +1,13 @@
 //! The parts of records, read from the front of bytes as in `fields`.
 ghost use Rattle.std.specs.Prelude.{◌≡◌};
-ghost use Rattle.record_codec.specs.Reading.{Gives, name_at, pattern_at, items_at, list_at, option_at, mapping_at, start_at, origin_at, discard_at, copies_at, config_at, mark_at};
+ghost use Rattle.record_codec.specs.Reading.{Gives, option_at, mapping_at, start_at, origin_at, discard_at, copies_at, config_at, mark_at};
 
 use crate::fault::Stop;
-use crate::fields::{bad, name_of, pattern_of, text_of, u32_of, u64_of};
-use nats_text::{Bytes, List, Mapping, Name, Origin, Pattern, Start};
+use crate::fields::{bad, name_of, text_of, u32_of, u64_of};
+use crate::items::{list_of, option_of};
+use nats_text::{Bytes, Mapping, Origin, Start};
 use std::alloc::Global;
 use stream_fold::{Config, Copies, Discard, Mark};
-
-#[tactic(auto, unfolding(crate::specs::Reading::option_at))]
-fn node_of(alloc: Global, bytes: &[u8]) -> Result<(Option<Name>, &[u8]), Stop>
-    ensures { Gives (λ x. (x.0, x.1.now)) result (option_at name_at bytes.now) }
-{
-    match bytes {
-        [0, rest @ ..] => Ok((None, rest)),
-        [1, rest @ ..] => {
-            let (name, rest) = name_of(alloc, rest)?;
-            Ok((Some(name), rest))
-        }
-        _ => Err(bad(bytes)),
-    }
-}
-
-#[tactic(auto, unfolding(crate::specs::Reading::option_at))]
-fn filter_of(alloc: Global, bytes: &[u8]) -> Result<(Option<Pattern>, &[u8]), Stop>
-    ensures { Gives (λ x. (x.0, x.1.now)) result (option_at pattern_at bytes.now) }
-{
-    match bytes {
-        [0, rest @ ..] => Ok((None, rest)),
-        [1, rest @ ..] => {
-            let (pattern, rest) = pattern_of(alloc, rest)?;
-            Ok((Some(pattern), rest))
-        }
-        _ => Err(bad(bytes)),
-    }
-}
-
-#[tactic(auto, unfolding(crate::specs::Reading::option_at))]
-fn transform_of(alloc: Global, bytes: &[u8]) -> Result<(Option<Mapping>, &[u8]), Stop>
-    ensures { Gives (λ x. (x.0, x.1.now)) result (option_at mapping_at bytes.now) }
-{
-    match bytes {
-        [0, rest @ ..] => Ok((None, rest)),
-        [1, rest @ ..] => {
-            let (mapping, rest) = mapping_of(alloc, rest)?;
-            Ok((Some(mapping), rest))
-        }
-        _ => Err(bad(bytes)),
-    }
-}
 
 #[tactic(auto, unfolding(crate::specs::Reading::option_at))]
 pub(crate) fn mark_of(bytes: &[u8]) -> Result<(Option<Mark>, &[u8]), Stop>
@@ -74,7 +33,7 @@ fn some_mark_of(bytes: &[u8]) -> Result<(Mark, &[u8]), Stop>
 }
 
 #[tactic(auto, unfolding(crate::specs::Reading::mapping_at))]
-fn mapping_of(alloc: Global, bytes: &[u8]) -> Result<(Mapping, &[u8]), Stop>
+pub(crate) fn mapping_of(alloc: Global, bytes: &[u8]) -> Result<(Mapping, &[u8]), Stop>
     ensures { Gives (λ x. (x.0, x.1.now)) result (mapping_at bytes.now) }
 {
     let (src, rest) = text_of(bytes)?;
@@ -104,14 +63,14 @@ fn start_of(bytes: &[u8]) -> Result<(Start, &[u8]), Stop>
 }
 
 #[tactic(auto, unfolding(crate::specs::Reading::origin_at))]
-fn origin_of(alloc: Global, bytes: &[u8]) -> Result<(Origin, &[u8]), Stop>
+pub(crate) fn origin_of(alloc: Global, bytes: &[u8]) -> Result<(Origin, &[u8]), Stop>
     ensures { Gives (λ x. (x.0, x.1.now)) result (origin_at bytes.now) }
 {
-    let (node, rest) = node_of(alloc, bytes)?;
+    let (node, rest) = option_of(alloc, bytes)?;
     let (stream, rest) = name_of(alloc, rest)?;
     let (start, rest) = start_of(rest)?;
-    let (filter, rest) = filter_of(alloc, rest)?;
-    let (maps, rest) = maps_of(alloc, rest)?;
+    let (filter, rest) = option_of(alloc, rest)?;
+    let (maps, rest) = list_of(alloc, rest)?;
     let origin = Origin {
         node,
         stream,
@@ -144,7 +103,7 @@ fn copies_of(alloc: Global, bytes: &[u8]) -> Result<(Copies, &[u8]), Stop>
             Ok((Copies::Mirror(origin), rest))
         }
         [2, rest @ ..] => {
-            let (origins, rest) = origins_of(alloc, rest)?;
+            let (origins, rest) = list_of(alloc, rest)?;
             Ok((Copies::Sources(origins), rest))
         }
         _ => Err(bad(bytes)),
@@ -156,7 +115,7 @@ pub(crate) fn config_of(alloc: Global, bytes: &[u8]) -> Result<(Config, &[u8]), 
     ensures { Gives (λ x. (x.0, x.1.now)) result (config_at bytes.now) }
 {
     let (name, rest) = name_of(alloc, bytes)?;
-    let (subjects, rest) = subjects_of(alloc, rest)?;
+    let (subjects, rest) = list_of(alloc, rest)?;
     let (max_msgs, rest) = u64_of(rest)?;
     let (max_bytes, rest) = u64_of(rest)?;
     let (max_age, rest) = u64_of(rest)?;
@@ -164,7 +123,7 @@ pub(crate) fn config_of(alloc: Global, bytes: &[u8]) -> Result<(Config, &[u8]), 
     let (max_msg_size, rest) = u64_of(rest)?;
     let (discard, rest) = discard_of(rest)?;
     let (window, rest) = u64_of(rest)?;
-    let (transform, rest) = transform_of(alloc, rest)?;
+    let (transform, rest) = option_of(alloc, rest)?;
     let (copies, rest) = copies_of(alloc, rest)?;
     let config = Config {
         name,
@@ -180,73 +139,4 @@ pub(crate) fn config_of(alloc: Global, bytes: &[u8]) -> Result<(Config, &[u8]), 
         copies,
     };
     Ok((config, rest))
-}
-
-#[tactic(auto, unfolding(crate::specs::Reading::list_at))]
-fn subjects_of(alloc: Global, bytes: &[u8]) -> Result<(List<Pattern>, &[u8]), Stop>
-    ensures { Gives (λ x. (x.0, x.1.now)) result (list_at pattern_at bytes.now) }
-{
-    let (count, rest) = u32_of(bytes)?;
-    let (patterns, rest) = patterns_of(alloc, count, rest)?;
-    Ok((List::from_vec(patterns), rest))
-}
-
-// So many patterns. The count is only trusted as far as there are bytes.
-fn patterns_of(alloc: Global, count: u32, bytes: &[u8]) -> Result<(Vec<Pattern>, &[u8]), Stop>
-    ensures { Gives (λ x. (x.0.items, x.1.now)) result (items_at pattern_at count bytes.now) }
-{
-    let mut patterns = Vec::new(alloc);
-    let mut rest = bytes;
-    for _ in 0..count {
-        let (pattern, behind) = pattern_of(alloc, rest)?;
-        patterns.push(pattern)?;
-        rest = behind;
-    }
-    Ok((patterns, rest))
-}
-
-#[tactic(auto, unfolding(crate::specs::Reading::list_at))]
-fn maps_of(alloc: Global, bytes: &[u8]) -> Result<(List<Mapping>, &[u8]), Stop>
-    ensures { Gives (λ x. (x.0, x.1.now)) result (list_at mapping_at bytes.now) }
-{
-    let (count, rest) = u32_of(bytes)?;
-    let (mappings, rest) = mappings_of(alloc, count, rest)?;
-    Ok((List::from_vec(mappings), rest))
-}
-
-// So many pairs of source and destination, as in `patterns_of`.
-fn mappings_of(alloc: Global, count: u32, bytes: &[u8]) -> Result<(Vec<Mapping>, &[u8]), Stop>
-    ensures { Gives (λ x. (x.0.items, x.1.now)) result (items_at mapping_at count bytes.now) }
-{
-    let mut mappings = Vec::new(alloc);
-    let mut rest = bytes;
-    for _ in 0..count {
-        let (mapping, behind) = mapping_of(alloc, rest)?;
-        mappings.push(mapping)?;
-        rest = behind;
-    }
-    Ok((mappings, rest))
-}
-
-#[tactic(auto, unfolding(crate::specs::Reading::list_at))]
-fn origins_of(alloc: Global, bytes: &[u8]) -> Result<(List<Origin>, &[u8]), Stop>
-    ensures { Gives (λ x. (x.0, x.1.now)) result (list_at origin_at bytes.now) }
-{
-    let (count, rest) = u32_of(bytes)?;
-    let (origins, rest) = each_origin_of(alloc, count, rest)?;
-    Ok((List::from_vec(origins), rest))
-}
-
-// So many origins, as in `patterns_of`.
-fn each_origin_of(alloc: Global, count: u32, bytes: &[u8]) -> Result<(Vec<Origin>, &[u8]), Stop>
-    ensures { Gives (λ x. (x.0.items, x.1.now)) result (items_at origin_at count bytes.now) }
-{
-    let mut origins = Vec::new(alloc);
-    let mut rest = bytes;
-    for _ in 0..count {
-        let (origin, behind) = origin_of(alloc, rest)?;
-        origins.push(origin)?;
-        rest = behind;
-    }
-    Ok((origins, rest))
 }

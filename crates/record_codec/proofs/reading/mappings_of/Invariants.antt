@@ -1,7 +1,0 @@
-use Rattle.std.proofs.Common.{◌≡◌, ◌-◌}
-use Rattle.record_codec.specs.Reading.{items_at, mapping_at}
-use Rattle.record_codec.proofs.Loops.{with_front}
-use Rattle.record_codec.proofs.reading.mappings_of.Given as goal
-
-abbrev pub invariant-loop : goal.invariant-loop
-invariant-loop l = with_front l.mappings.items (items_at mapping_at (l.count - l.counter) l.rest) ≡ items_at mapping_at l.count l.bytes

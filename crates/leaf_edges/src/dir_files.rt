@@ -8,15 +8,23 @@ use std::alloc::AllocError;
 use std::fs::{File, OpenOptions};
 use std::io::{self, Read};
 use std::marker::Model;
-use std::path::{Component, Path, PathBuf};
+use std::path::{Path, PathBuf};
 
 /// The most bytes that a text may have.
 const MAX_TEXT: usize = 16_777_216;
 
 /// The files of the system. A name is the text of a path, which begins in the folder unless it is
-/// absolute. A file below the folder is opened for reading and writing, and is made where that is
-/// asked; a file elsewhere, as one whose path has a `..`, is only read. It tells nothing of their
-/// content. A link that leads elsewhere is followed.
+/// absolute, and may lead anywhere: by `..` and by links too. It tells nothing of their content.
+///
+/// A disk that is asked for with `make` is open for reading and writing, and is made where it isn't
+/// there; its folder, which is there already, is synced each time, since a crash may have come between
+/// the making of the file and that sync. Without `make` it is open for reading alone, so that a store
+/// is read of which nothing may be written.
+///
+/// A disk that is asked for with `make` is locked by the advisory lock of its file (`flock`) until it
+/// is given back: meanwhile another call with `make` on that file, of this process or of another, is a
+/// fault. Nothing else heeds the lock: neither a call without `make` nor other programs, and some
+/// networks' file systems don't keep it between machines.
 #[derive(Drop)]
 pub struct DirFiles {
     rt: HostRuntime,
@@ -70,14 +78,6 @@ fn path_of(rt: &HostRuntime, folder: &str, name: &[u8]) -> Result<PathBuf, EdgeE
     }
 }
 
-/// Whether a path leads to a file below the folder, as far as its text tells.
-fn is_below(folder: &str, path: Path<'_>) -> bool {
-    let folder = Path::new(folder);
-    path.is_absolute() == folder.is_absolute()
-        && path.starts_with(folder)
-        && !path.components().any(|part| part == Component::ParentDir)
-}
-
 /// No answer, for want of memory or by a fault.
 fn error_of(error: io::Error) -> EdgeError {
     if error.kind() == io::ErrorKind::OutOfMemory {
@@ -87,22 +87,24 @@ fn error_of(error: io::Error) -> EdgeError {
     }
 }
 
-/// Opens a file that is there.
-fn open(rt: &HostRuntime, path: Path<'_>, write: bool) -> Result<Option<File>, EdgeError> {
-    match OpenOptions::new().read(true).write(write).open(rt, path) {
+/// Opens a file that is there, for reading.
+fn open(rt: &HostRuntime, path: Path<'_>) -> Result<Option<File>, EdgeError> {
+    match File::open(rt, path) {
         Ok(file) => Ok(Some(file)),
         Err(error) if error.kind() == io::ErrorKind::NotFound => Ok(None),
         Err(error) => Err(error_of(error)),
     }
 }
 
-/// Makes a file, and syncs the folder that got its name.
-fn create(rt: &HostRuntime, path: Path<'_>) -> io::Result<File> {
+/// Opens a file for reading and writing, or makes it; locks it, and syncs the folder that has its
+/// name.
+fn open_locked(rt: &HostRuntime, path: Path<'_>) -> io::Result<File> {
     let file = OpenOptions::new()
         .read(true)
         .write(true)
-        .create_new(true)
+        .create(true)
         .open(rt, path)?;
+    file.try_lock()?;
     let folder = match path.parent() {
         Some(folder) if !folder.as_os_str().is_empty() => folder,
         _ => Path::new("."),
@@ -111,7 +113,7 @@ fn create(rt: &HostRuntime, path: Path<'_>) -> io::Result<File> {
     Ok(file)
 }
 
-/// Opens the file of a disk, or makes it.
+/// Opens the file of a disk.
 fn open_disk(
     rt: &HostRuntime,
     folder: &str,
@@ -119,16 +121,12 @@ fn open_disk(
     make: bool,
 ) -> Result<Option<File>, EdgeError> {
     let path = path_of(rt, folder, name)?;
-    let below = is_below(folder, path.as_path());
-    match open(rt, path.as_path(), below) {
-        Ok(Some(file)) => Ok(Some(file)),
-        Ok(None) if make && below => match create(rt, path.as_path()) {
-            Ok(file) => Ok(Some(file)),
-            Err(error) => Err(error_of(error)),
-        },
-        Ok(None) if make => Err(EdgeError::Failed),
-        Ok(None) => Ok(None),
-        Err(error) => Err(error),
+    if !make {
+        return open(rt, path.as_path());
+    }
+    match open_locked(rt, path.as_path()) {
+        Ok(file) => Ok(Some(file)),
+        Err(error) => Err(error_of(error)),
     }
 }
 
@@ -164,7 +162,7 @@ fn read_text(
         Ok(path) => path,
         Err(error) => return Err(error),
     };
-    match open(rt, path.as_path(), false) {
+    match open(rt, path.as_path()) {
         Ok(Some(file)) => match add_bytes(file, buf) {
             Ok(()) => Ok(true),
             Err(error) => Err(error),

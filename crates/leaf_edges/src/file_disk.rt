@@ -2,18 +2,32 @@ ghost use Rattle.std.specs.Prelude.{◌≡◌, ◌≤◌, [], false, None, IsErr
 ghost use Rattle.leaf_edges.specs.Causes.{CausesOne};
 ghost use Rattle.std.proofs.Common.{arith};
 
+use crate::span::Span;
 use crate::{Disk, EdgeError};
 use std::fs::File;
 use std::io;
 use std::marker::Model;
 use std::os::unix::fs::FileExt;
 
-/// A disk in a file of the system. It tells nothing of its content. A sync reaches the device with
-/// the file's bytes and its length.
+/// The bytes that the rewriting of a range reads at a time.
+const PIECE: usize = 4096;
+
+/// A disk in a regular file of the system. It tells nothing of its content. A sync reaches the device
+/// with the file's bytes and its length.
+///
+/// Where a sync fails, the system may count the bytes as written that never reached the device, so
+/// that its next sync succeeds without them (Linux does). So a disk keeps the range that was written
+/// since its last sync that succeeded; after a sync that failed, the next one first reads that range
+/// back and writes it again. It finds there what was written unless the system has let those bytes go
+/// from its memory meanwhile. And a disk that is opened after a failed sync, by this process or by a
+/// later one, knows nothing of it: what it reads may stand in the system's memory alone, and a crash
+/// of the machine may lose it although each sync from then on succeeds.
 #[derive(Drop)]
 pub struct FileDisk {
     file: File,
     faults: u64,
+    unsynced: Span,
+    is_in_doubt: bool,
 }
 
 /// Contracts see its count of faults.
@@ -26,11 +40,16 @@ impl Model for FileDisk {
 }
 
 impl FileDisk {
-    /// A disk in this file, which is open for reading and writing.
+    /// A disk in this file. Where the file is open for reading alone, each write and each cut fails.
     pub fn new(file: File) -> FileDisk
         ensures { result ≡ 0 }
     {
-        FileDisk { file, faults: 0 }
+        FileDisk {
+            file,
+            faults: 0,
+            unsynced: Span::empty(),
+            is_in_doubt: false,
+        }
     }
 
     /// How many of its calls failed.
@@ -39,6 +58,28 @@ impl FileDisk {
     {
         self.faults
     }
+}
+
+/// Reads the bytes of a range back and writes them again, up to the file's end.
+fn rewrite(file: &File, span: &Span) -> io::Result<()> {
+    let mut piece = [0u8; PIECE];
+    let end = span.end.min(file.metadata()?.len());
+    let mut place = span.start;
+    while place < end {
+        let count = (end - place).min(PIECE as u64) as usize;
+        file.read_exact_at(&mut piece[..count], place)?;
+        file.write_all_at(&piece[..count], place)?;
+        place += count as u64;
+    }
+    Ok(())
+}
+
+/// Brings what was written to the device; what a sync that failed left in doubt is written again.
+fn reach_device(file: &File, unsynced: &Span, is_in_doubt: bool) -> io::Result<()> {
+    if is_in_doubt {
+        rewrite(file, unsynced)?;
+    }
+    file.sync_all()
 }
 
 /// Counts a fault at an error.
@@ -101,14 +142,23 @@ impl Disk for FileDisk {
     }
 
     fn write_at(&mut self, place: u64, bytes: &[u8]) -> Result<(), EdgeError> {
+        // A write that fails may have written a part.
+        self.unsynced.add(place, bytes.len() as u64);
         counted(self.file.write_all_at(bytes, place), &mut self.faults)
     }
 
     fn cut(&mut self, len: u64) -> Result<(), EdgeError> {
-        counted(self.file.set_len(len), &mut self.faults)
+        counted(self.file.set_len(len), &mut self.faults)?;
+        self.unsynced.cut(len);
+        Ok(())
     }
 
     fn sync(&mut self) -> Result<(), EdgeError> {
-        counted(self.file.sync_all(), &mut self.faults)
+        let reached = reach_device(&self.file, &self.unsynced, self.is_in_doubt);
+        self.is_in_doubt = reached.is_err();
+        if reached.is_ok() {
+            self.unsynced = Span::empty();
+        }
+        counted(reached, &mut self.faults)
     }
 }

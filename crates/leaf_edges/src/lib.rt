@@ -16,6 +16,7 @@ mod memory;
 mod pump;
 mod sink;
 mod source;
+mod span;
 mod standard;
 mod sys_clock;
 

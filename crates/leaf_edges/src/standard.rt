@@ -1,4 +1,6 @@
 ghost use Rattle.std.specs.Prelude.{◌≡◌, None};
+ghost use Rattle.std.specs.Io.{WritesAtMost};
+ghost use Rattle.leaf_edges.specs.Causes.{WriteCauses};
 
 use crate::{EdgeError, Sink, Source};
 use std::io::{Read, Stderr, Stdin, Stdout, Write};
@@ -44,6 +46,30 @@ impl Source for StdIn {
     }
 }
 
+/// Writes to a stream of the system. An error counts as a fault, and so does a piece of which nothing
+/// was taken.
+fn write_to<W: Write>(
+    stream: &mut W,
+    faults: &mut u64,
+    bytes: &[u8],
+) -> Result<usize, EdgeError>
+    ensures bound { WritesAtMost result bytes.now }
+    ensures cause { WriteCauses faults.old faults.new result bytes.now }
+{
+    match stream.write(bytes) {
+        Ok(count) => {
+            if count == 0 && !bytes.is_empty() {
+                *faults = faults.saturating_add(1);
+            }
+            Ok(count)
+        }
+        Err(_) => {
+            *faults = faults.saturating_add(1);
+            Err(EdgeError::Failed)
+        }
+    }
+}
+
 /// Standard output. It tells nothing of its content.
 #[derive(Drop)]
 pub struct StdOut {
@@ -74,18 +100,7 @@ impl Sink for StdOut {
     ghost faults = { λ faults. faults };
 
     fn write(&mut self, bytes: &[u8]) -> Result<usize, EdgeError> {
-        match self.inner.write(bytes) {
-            Ok(count) => {
-                if count == 0 && !bytes.is_empty() {
-                    self.faults = self.faults.saturating_add(1);
-                }
-                Ok(count)
-            }
-            Err(_) => {
-                self.faults = self.faults.saturating_add(1);
-                Err(EdgeError::Failed)
-            }
-        }
+        write_to(&mut self.inner, &mut self.faults, bytes)
     }
 }
 
@@ -119,17 +134,6 @@ impl Sink for StdErr {
     ghost faults = { λ faults. faults };
 
     fn write(&mut self, bytes: &[u8]) -> Result<usize, EdgeError> {
-        match self.inner.write(bytes) {
-            Ok(count) => {
-                if count == 0 && !bytes.is_empty() {
-                    self.faults = self.faults.saturating_add(1);
-                }
-                Ok(count)
-            }
-            Err(_) => {
-                self.faults = self.faults.saturating_add(1);
-                Err(EdgeError::Failed)
-            }
-        }
+        write_to(&mut self.inner, &mut self.faults, bytes)
     }
 }

@@ -6,9 +6,10 @@ use std::time::{SystemTime, UNIX_EPOCH};
 /// The last moment that there is.
 const LAST_MOMENT: u64 = (1 << 63) - 1;
 
-/// The system's clock. It tells nothing of its moments. A time before 1970 counts as 0, and one past
-/// `2^63 - 1` as that. Where the system gives no time it gives the moment that it gave last, 0 where
-/// there was none.
+/// The system's clock of the time since 1970 (UTC, without leap seconds), which steps where that is set.
+/// It tells nothing of its moments. A time before 1970 counts as 0, and one past `2^63 - 1` nanoseconds
+/// as that. Where the system gives no time it gives the moment that it gave last, 0 where there was
+/// none; a fork begins with the moment that this clock gave last.
 #[derive(Drop)]
 pub struct SysClock {
     rt: HostRuntime,

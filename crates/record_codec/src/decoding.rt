@@ -13,6 +13,9 @@ use stream_fold::Entry;
 /// Reads a record, all of the bytes. `Bad` comes exactly where they are not what `encode` writes of
 /// some record, with the place of the first field that can't be read, or of the first byte behind a
 /// whole record. A length or a count that the bytes don't back takes no memory.
+///
+/// Texts are copied as they are read. So `NoMemory` comes where the fields before the one that wants
+/// memory are those of a record, and what stands behind it is not looked at.
 pub fn decode(alloc: Global, bytes: &[u8]) -> Result<Rec, RecFault>
     ensures exact { Decodes result (reading bytes.now) }
 

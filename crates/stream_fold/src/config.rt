@@ -1,4 +1,4 @@
-ghost use Rattle.std.specs.Prelude.{◌≡◌};
+ghost use Rattle.std.specs.Prelude.{◌≡◌, IfOk};
 ghost use Rattle.stream_fold.specs.Checking.{config_fault, IsFault};
 
 use crate::wrong_member::{own_subjects, wrong_member};
@@ -94,10 +94,8 @@ impl Clone for Config {
     ghost is_clone = { λ a b. b ≡ a };
 
     fn clone(&self) -> Result<Config, AllocError> {
-        let name = self.name.clone()?;
-        let subjects = self.subjects.clone()?;
-        let transform = self.transform.clone()?;
-        let copies = self.copies.clone()?;
+        let (name, subjects) = copied_texts(self)?;
+        let (transform, copies) = copied_origins(self)?;
         Ok(Config {
             name,
             subjects,
@@ -112,4 +110,18 @@ impl Clone for Config {
             copies,
         })
     }
+}
+
+fn copied_texts(config: &Config) -> Result<(Name, List<Pattern>), AllocError>
+    ensures { IfOk result (λ texts. (texts.0 ≡ config.now.name) × (texts.1 ≡ config.now.subjects)) }
+{
+    let name = config.name.clone()?;
+    Ok((name, config.subjects.clone()?))
+}
+
+fn copied_origins(config: &Config) -> Result<(Option<Mapping>, Copies), AllocError>
+    ensures { IfOk result (λ origins. (origins.0 ≡ config.now.transform) × (origins.1 ≡ config.now.copies)) }
+{
+    let transform = config.transform.clone()?;
+    Ok((transform, config.copies.clone()?))
 }

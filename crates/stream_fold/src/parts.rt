@@ -1,4 +1,4 @@
-ghost use Rattle.std.specs.Prelude.{◌≡◌, ◌<◌, ◌≤◌, length, ◌+◌, ◌^◌, ◌++◌, ◌∷◌, [], ◌==◌, not, filter, nat_le, drop, Some, vec_len};
+ghost use Rattle.std.specs.Prelude.{◌≡◌, ◌<◌, ◌≤◌, length, ◌+◌, ◌^◌, ◌++◌, ◌∷◌, [], ◌==◌, not, filter, nat_le, drop, Some, vec_len, OnOk};
 ghost use Rattle.std.specs.Vec.{vec_capacity};
 ghost use Rattle.std.specs.Str.{bytes_eq};
 ghost use Rattle.nats_text.specs.Sizes.{size};
@@ -9,7 +9,7 @@ ghost use Rattle.stream_fold.specs.Parts.{held_in, room_in, changed_newest, with
 use crate::rows::Rows;
 use crate::trim::{drop_front, is_older};
 use crate::{BoundTo, Config, Entry, Mark, Numbered};
-use nats_text::{Bytes, Message};
+use nats_text::{Bytes, Message, NoMemory};
 use std::alloc::Global;
 
 /// What an index of a copy is bound to.
@@ -40,6 +40,20 @@ pub struct Parts {
     pub marks: Vec<Mark>,
     pub sent: Vec<Sent>,
     pub spare: Option<Bytes>,
+}
+
+/// Makes room for one entry in each list.
+pub fn reserve_one(parts: &mut Parts) -> Result<(), NoMemory>
+    ensures held { held_in parts.new ≡ held_in parts.old }
+    ensures spare { parts.new.spare ≡ parts.old.spare }
+    ensures room { room_in parts.old ≤ room_in parts.new }
+    ensures ok { OnOk result (0 < room_in parts.new) }
+{
+    parts.rows.reserve()?;
+    parts.bindings.reserve(1)?;
+    parts.marks.reserve(1)?;
+    parts.sent.reserve(1)?;
+    Ok(())
 }
 
 /// Does what the entry says, and keeps the limit of each subject. The rows were within it before: so

@@ -9,7 +9,7 @@ ghost use Rattle.stream_fold.specs.Fits.{Fits, KeepsMembers, index_count};
 ghost use Rattle.stream_fold.specs.Held.{StandsFor, HasRoom, first_of, id_of, sent_id, size_put};
 ghost use Rattle.stream_fold.specs.RowLists.{from_number, seqs, Rises};
 
-use crate::parts::{Parts, change};
+use crate::parts::{Parts, change, reserve_one};
 use crate::publish::{last_of, next_match, verdict};
 use crate::rows::{Rows, message_of, rows_from};
 use crate::same::same_copies;
@@ -211,10 +211,7 @@ impl StreamState {
             return Err(NoMemory);
         }
         let spare = id_of(self.parts.alloc, entry)?;
-        self.parts.rows.reserve()?;
-        self.parts.bindings.reserve(1)?;
-        self.parts.marks.reserve(1)?;
-        self.parts.sent.reserve(1)?;
+        reserve_one(&mut self.parts)?;
         self.parts.spare = spare;
         Ok(())
     }

@@ -48,11 +48,7 @@ impl Source for StdIn {
 
 /// Writes to a stream of the system. An error counts as a fault, and so does a piece of which nothing
 /// was taken.
-fn write_to<W: Write>(
-    stream: &mut W,
-    faults: &mut u64,
-    bytes: &[u8],
-) -> Result<usize, EdgeError>
+fn write_to<W: Write>(stream: &mut W, faults: &mut u64, bytes: &[u8]) -> Result<usize, EdgeError>
     ensures bound { WritesAtMost result bytes.now }
     ensures cause { WriteCauses faults.old faults.new result bytes.now }
 {

@@ -20,6 +20,3 @@ pub use nats_text::{Mapping, Origin};
 pub use parts::{Binding, Sent};
 pub use state::StreamState;
 pub use verdict::{Refusal, Verdict};
-
-#[cfg(test)]
-mod tests;

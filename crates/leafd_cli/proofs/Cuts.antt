@@ -1,7 +1,7 @@
 -- The lines of a text, one after another.
 use Rattle.std.proofs.Common.{◌≡◌, ℕ, List, [], ◌∷◌, Bool, true, false, cond, eqb, refl, sym, ap, ◌∙◌}
 use Rattle.nats_text.specs.Pieces.{pieces, onto_first}
-use Rattle.leafd_cli.specs.Rows.{Row, rows_of, rows_from}
+use Rattle.leafd_cli.specs.ScriptLines.{ScriptLine, lines_of, lines_from}
 
 -- the parts of a text have a first one
 abbrev pub HasFirst : List (List ℕ) → Type 0
@@ -18,8 +18,8 @@ pieces_first c (b ∷ bs) =
     let go : (x : Bool) → P x = λ x. elim x as P [ true ↦ ([], pieces c bs, refl) | false ↦ onto_has_first b (pieces c bs) ] in
     go (eqb b c)
 
-pub rows_of-cut : (rest line after : List ℕ) → pieces 10 rest ≡ line ∷ pieces 10 after → rows_of rest ≡ record { bytes = line; ended = true } ∷ rows_of after
-rows_of-cut rest line after e =
+pub lines_of-cut : (rest line after : List ℕ) → pieces 10 rest ≡ line ∷ pieces 10 after → lines_of rest ≡ record { bytes = line; ended = true } ∷ lines_of after
+lines_of-cut rest line after e =
     let f = pieces_first 10 after in
-    let row : Row = record { bytes = line; ended = true } in
-    ap rows_from (e ∙ ap (λ ps. line ∷ ps) f.2) ∙ ap (λ ps. row ∷ rows_from ps) (sym f.2)
+    let row : ScriptLine = record { bytes = line; ended = true } in
+    ap lines_from (e ∙ ap (λ ps. line ∷ ps) f.2) ∙ ap (λ ps. row ∷ lines_from ps) (sym f.2)

@@ -49,7 +49,7 @@ old_number origin copy new seq e (inr s) = inr (record { here = e ∙ s.here; ho
 pub MirrorHolds-fed : (bound : Option BoundTo) (origin : History) (copy : List Entry) → NumbersRise origin.entries → ((seq : ℕ) → 1 ≤ seq → seq ≤ last copy → IsStored origin copy seq ⊎ IsLeftOut origin copy seq) → put 0 copy ≡ None → MirrorHolds origin (fed_log bound copy (rows_past (last copy) (kept origin))) 1
 MirrorHolds-fed bound origin copy rise each none =
     let new : List Entry = fed_log bound copy (rows_past (last copy) (kept origin)) in
-    let taken = last-taken (last origin.entries) (last copy) (kept origin) (HasAll-kept origin rise) in
+    let taken = last-taken (last origin.entries) (last copy) (kept origin) (HasAll-kept origin) in
     record {
       below = λ seq h.
           let zero_is : seq ≡ 0 = omega arith in

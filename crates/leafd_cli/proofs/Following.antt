@@ -8,11 +8,10 @@ use Rattle.stream_fold.specs.declared.entry.Numbered.{Numbered}
 use Rattle.stream_fold.specs.Histories.{last, kept}
 use Rattle.stream_fold.specs.Copying.{bound}
 use Rattle.stream_fold.proofs.Folds.{last-push}
-use Rattle.stream_fold.proofs.KeptRows.{EachRow, EachRow-weaker, Rises, seqs, kept-rises}
+use Rattle.stream_fold.proofs.KeptRows.{EachRow, EachRow-weaker, Rises, seqs, kept-rises, kept-below}
 use Rattle.leafd_cli.specs.Logs.{StreamLog, history_of}
 use Rattle.leafd_cli.specs.Plain.{copied_entry, rows_past, bound_log, fed_rows}
 use Rattle.leafd_cli.specs.Keeping.{IsNumbered, CanFollow}
-use Rattle.leafd_cli.proofs.Joined.{kept-below}
 use Rattle.leafd_cli.proofs.Numbers.{numbered-push}
 
 -- the rows past a number that are above another one too
@@ -39,7 +38,7 @@ follow low from b (r ∷ rows) rise above small =
 
 pub can_follow : (low : ℕ) (o : StreamLog) → IsNumbered o → CanFollow low (rows_past low (kept (history_of o)))
 can_follow low o n =
-    let below = kept-below (history_of o) n.rising in
+    let below = kept-below (history_of o) in
     let small = EachRow-weaker (λ r. r.seq ≤ last o.entries) (λ r. r.seq < 2 ^ 63) (λ r q. omega (arith, q, n.below)) (kept (history_of o)) below in
     let above = EachRow-weaker (λ r. r.seq ≤ last o.entries) (λ r. low < r.seq → low < r.seq) (λ r q k. k) (kept (history_of o)) below in
     follow low low 0 (kept (history_of o)) (kept-rises (history_of o) n.rising) above small
@@ -72,3 +71,17 @@ numbered-fed s o n m =
     let rows = rows_past (last s.entries) (kept (history_of o)) in
     let C : ℕ → Type 0 = λ x. CanFollow x rows in
     numbered-rows rows t (bound_numbered b s n) (subst C (sym low) (can_follow (last s.entries) o m))
+
+-- the others may follow the row
+pub copied_on : (s : StreamLog) (row : Numbered) (rows : List Numbered) → CanFollow (last s.entries) (row ∷ rows) → CanFollow (last (s.entries ++ copied_entry row ∷ [])) rows
+copied_on s row rows can =
+    let C : ℕ → Type 0 = λ low. CanFollow low rows in
+    let end : last (s.entries ++ copied_entry row ∷ []) ≡ row.seq = omega (arith, last-push s.entries (copied_entry row), can.0) in
+    subst C (sym end) can.2
+
+-- a Bind leaves the last number
+pub bound_on : (s : StreamLog) (rows : List Numbered) → CanFollow (last s.entries) rows → CanFollow (last (s.entries ++ Bind 0 1 1 ∷ [])) rows
+bound_on s rows can =
+    let C : ℕ → Type 0 = λ low. CanFollow low rows in
+    let end : last (s.entries ++ Bind 0 1 1 ∷ []) ≡ last s.entries = omega (arith, last-push s.entries (Bind 0 1 1)) in
+    subst C (sym end) can

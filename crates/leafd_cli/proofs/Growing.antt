@@ -8,37 +8,23 @@ use Rattle.stream_fold.specs.declared.config.Copies.TheVariants.{Nothing, Mirror
 use Rattle.stream_fold.specs.declared.entry.Entry.TheVariants.{Put, Bind}
 use Rattle.stream_fold.specs.declared.entry.Numbered.{Numbered}
 use Rattle.stream_fold.specs.Histories.{last, kept}
-use Rattle.stream_fold.specs.Held.{index_count}
+use Rattle.stream_fold.specs.Fits.{index_count}
 use Rattle.stream_fold.proofs.Folds.{last-push}
 use Rattle.leafd_cli.specs.Logs.{StreamLog, history_of, limits_of}
-use Rattle.leafd_cli.specs.Legal.{origin_of}
+use Rattle.leafd_cli.specs.Legal.{origin_among}
 use Rattle.leafd_cli.specs.Plain.{copied_entry, missing_of, missing_kind, rows_past, no_stream, settle_at, settled_upto}
-use Rattle.leafd_cli.specs.Keeping.{KeepsCopy, AllNumbered, IsKept, CanFollow}
+use Rattle.leafd_cli.specs.Keeping.{KeepsCopy, AllNumbered, AreSound, CanFollow}
 use Rattle.leafd_cli.proofs.Joined.{not_some}
 use Rattle.leafd_cli.proofs.Numbers.{AllNumbered-at}
-use Rattle.leafd_cli.proofs.Steps.{AllKeep-at, origin_numbered, origin_of-append}
-use Rattle.leafd_cli.proofs.Following.{can_follow}
+use Rattle.leafd_cli.proofs.Steps.{AllKeep-at, origin_numbered, origin_among-append}
+use Rattle.leafd_cli.proofs.Following.{can_follow, copied_on}
 use Rattle.leafd_cli.proofs.Settles.{fed_upto}
-
--- the others may follow the row
-pub copied_on : (s : StreamLog) (row : Numbered) (rows : List Numbered) → CanFollow (last s.entries) (row ∷ rows) → CanFollow (last (s.entries ++ copied_entry row ∷ [])) rows
-copied_on s row rows can =
-    let C : ℕ → Type 0 = λ low. CanFollow low rows in
-    let end : last (s.entries ++ copied_entry row ∷ []) ≡ row.seq = omega (arith, last-push s.entries (copied_entry row), can.0) in
-    subst C (sym end) can.2
-
--- a Bind leaves the last number
-pub bound_on : (s : StreamLog) (rows : List Numbered) → CanFollow (last s.entries) rows → CanFollow (last (s.entries ++ Bind 0 1 1 ∷ [])) rows
-bound_on s rows can =
-    let C : ℕ → Type 0 = λ low. CanFollow low rows in
-    let end : last (s.entries ++ Bind 0 1 1 ∷ []) ≡ last s.entries = omega (arith, last-push s.entries (Bind 0 1 1)) in
-    subst C (sym end) can
 
 -- what a stream misses may follow
 missing_follows : (before after : List StreamLog) (s : StreamLog) (copies : Copies) (rows : List Numbered) → AllNumbered (before ++ after) → KeepsCopy before s copies → missing_kind (before ++ after) s copies ≡ Some rows → CanFollow (last s.entries) rows
 missing_follows before after s Nothing rows n k e = not_some rows e
 missing_follows before after s (Mirror want) rows n k e =
-    let found : origin_of want (before ++ after) ≡ Some k.0 = origin_of-append want before after k.0 k.1 in
+    let found : origin_among want (before ++ after) ≡ Some k.0 = origin_among-append want before after k.0 k.1 in
     let P : List Numbered → Type 0 = λ rs. CanFollow (last s.entries) rs in
     let same : rows_past (last s.entries) (kept (history_of k.0)) ≡ rows = let q : Some (rows_past (last s.entries) (kept (history_of k.0))) ≡ Some rows = ap (λ o. missing_of o s) (sym found) ∙ e in cc in
     subst P same (can_follow (last s.entries) k.0 (origin_numbered want.node want.stream (before ++ after) k.0 n found))
@@ -50,7 +36,7 @@ missing_mirror streams s Nothing rows e = not_some rows e
 missing_mirror streams s (Mirror want) rows e = omega arith
 missing_mirror streams s (Sources wants) rows e = not_some rows e
 
-pub feeds_follow : (streams : List StreamLog) (k : ℕ) (rows : List Numbered) → k < length streams → IsKept streams → missing_kind streams (get_or streams k no_stream) (get_or streams k no_stream).config.copies ≡ Some rows → CanFollow (last (get_or streams k no_stream).entries) rows
+pub feeds_follow : (streams : List StreamLog) (k : ℕ) (rows : List Numbered) → k < length streams → AreSound streams → missing_kind streams (get_or streams k no_stream) (get_or streams k no_stream).config.copies ≡ Some rows → CanFollow (last (get_or streams k no_stream).entries) rows
 feeds_follow streams k rows h kept e =
     let s = get_or streams k no_stream in
     let whole : take k streams ++ drop k streams ≡ streams = take-append-drop k streams in
@@ -58,7 +44,7 @@ feeds_follow streams k rows h kept e =
     let M : List StreamLog → Type 0 = λ x. missing_kind x s s.config.copies ≡ Some rows in
     missing_follows (take k streams) (drop k streams) s s.config.copies rows (subst A (sym whole) kept.numbers) (AllKeep-at [] streams k no_stream h kept.copies) (subst M (sym whole) e)
 
-pub feeds_mirror : (streams : List StreamLog) (k : ℕ) (rows : List Numbered) → k < length streams → IsKept streams → missing_kind streams (get_or streams k no_stream) (get_or streams k no_stream).config.copies ≡ Some rows → 0 < index_count (limits_of (get_or streams k no_stream)).copies
+pub feeds_mirror : (streams : List StreamLog) (k : ℕ) (rows : List Numbered) → k < length streams → AreSound streams → missing_kind streams (get_or streams k no_stream) (get_or streams k no_stream).config.copies ≡ Some rows → 0 < index_count (limits_of (get_or streams k no_stream)).copies
 feeds_mirror streams k rows h kept e =
     let s = get_or streams k no_stream in
     let P : Copies → Type 0 = λ c. 0 < index_count c in
@@ -100,18 +86,18 @@ stream_is streams seen k s h e at = at ∙ (get_or_default streams k s no_stream
 pub record SettlesMore (k : ℕ) (first new : List StreamLog) (end : ℕ) : Type 0 where
   pub streams : new ≡ settled_upto (k + 1) first
   pub many : length new ≡ end
-  pub kept : IsKept new
+  pub kept : AreSound new
 
 length-settled : (k : ℕ) (first : List StreamLog) → length (settled_upto k first) ≡ length first
 length-settled zero first = refl
 length-settled (suc k) first = length-set (settled_upto k first) k _ ∙ length-settled k first
 
-pub settles_more : (k : ℕ) (first now new : List StreamLog) (end : ℕ) → k < end → IsKept first → now ≡ settled_upto k first → length now ≡ end → new ≡ settle_at k now → SettlesMore k first new end
+pub settles_more : (k : ℕ) (first now new : List StreamLog) (end : ℕ) → k < end → AreSound first → now ≡ settled_upto k first → length now ≡ end → new ≡ settle_at k now → SettlesMore k first new end
 settles_more k first now new end h kept so long step =
     let is : new ≡ settled_upto (suc k) first = step ∙ ap (settle_at k) so in
     let many : length first ≡ end = sym (length-settled k first) ∙ (ap length (sym so) ∙ long) in
     let f = fed_upto (suc k) first (omega (arith, many, h)) kept in
-    let P : List StreamLog → Type 0 = λ x. IsKept x in
+    let P : List StreamLog → Type 0 = λ x. AreSound x in
     record {
       streams = is ∙ ap (λ n. settled_upto n first) (sym (add-one k));
       many = ap length is ∙ (length-settled (suc k) first ∙ many);

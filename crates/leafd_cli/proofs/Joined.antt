@@ -7,10 +7,9 @@ use Rattle.stream_fold.specs.declared.entry.Entry.{Entry}
 use Rattle.stream_fold.specs.declared.entry.Entry.TheVariants.{Put, Del, Purge, Expire, Bind, Limits}
 use Rattle.stream_fold.specs.declared.entry.Numbered.{Numbered}
 use Rattle.stream_fold.specs.declared.parts.Binding.{Binding}
-use Rattle.stream_fold.specs.Histories.{History, either, put, put_by, last, number_of, kept, message_at, NumbersRise}
+use Rattle.stream_fold.specs.Histories.{History, either, put, put_by, last, number_put, kept, message_at, NumbersRise}
 use Rattle.stream_fold.specs.Copying.{bindings, binding_at}
-use Rattle.stream_fold.proofs.Growth.{put-below}
-use Rattle.stream_fold.proofs.KeptRows.{EachRow, EachRow-weaker, kept-put}
+use Rattle.stream_fold.proofs.KeptRows.{EachRow, kept-below, kept-put}
 use Rattle.leafd_cli.specs.Copies.{HasAll}
 use Rattle.leafd_cli.specs.Plain.{copied_entry, rows_past}
 
@@ -84,7 +83,7 @@ either_none_right : {A : Type 0} (a b : Option A) → either a b ≡ None → b 
 either_none_right None b e = e
 either_none_right (Some x) b e = not_some x (sym e)
 
-no_number : (e : Entry) → ((seq : ℕ) → put_by seq e ≡ None) → number_of e ≡ 0
+no_number : (e : Entry) → ((seq : ℕ) → put_by seq e ≡ None) → number_put e ≡ 0
 no_number (Put n m mark) none = let here : eqb n n ≡ true = eq-eqb n n refl in let wrong : Some m ≡ None = rw here at (none n) in cc
 no_number (Del n) none = refl
 no_number (Purge pattern below) none = refl
@@ -112,12 +111,8 @@ HasAll-each : (n : ℕ) (rows : List Numbered) → EachRow (λ r. r.seq ≤ n) r
 HasAll-each n [] each = tt
 HasAll-each n (r ∷ rows) each = (each.0, HasAll-each n rows each.1)
 
--- each kept number is at most the last
-pub kept-below : (h : History) → NumbersRise h.entries → EachRow (λ r. r.seq ≤ last h.entries) (kept h)
-kept-below h rise = EachRow-weaker (λ r. put r.seq h.entries ≡ Some r.message) (λ r. r.seq ≤ last h.entries) (λ r q. put-below h.entries r.seq r.message q) (kept h) (kept-put h rise)
-
-pub HasAll-kept : (h : History) → NumbersRise h.entries → HasAll (last h.entries) (kept h)
-HasAll-kept h rise = HasAll-each (last h.entries) (kept h) (kept-below h rise)
+pub HasAll-kept : (h : History) → HasAll (last h.entries) (kept h)
+HasAll-kept h = HasAll-each (last h.entries) (kept h) (kept-below h)
 
 -- the last of the rows that are taken is no greater than the last of all
 pub last-taken : (n low : ℕ) (rows : List Numbered) → HasAll n rows → last (map copied_entry (rows_past low rows)) ≤ n

@@ -1,7 +1,7 @@
 -- The numbers of logs that grow.
 use Rattle.std.proofs.Common.{◌≡◌, ℕ, zero, suc, ◌<◌, ◌^◌, max, List, [], ◌∷◌, ◌++◌, length, set, get_or, ap, subst, ◌∙◌, arith}
 use Rattle.stream_fold.specs.declared.entry.Entry.{Entry}
-use Rattle.stream_fold.specs.Histories.{last, number_of, limits_after, IsAbove}
+use Rattle.stream_fold.specs.Histories.{last, number_put, limits_after, IsAbove}
 use Rattle.stream_fold.proofs.Folds.{last-push, stands-push}
 use Rattle.stream_fold.proofs.Growth.{RiseFrom-push}
 use Rattle.leafd_cli.specs.Logs.{StreamLog, history_of, limits_of}
@@ -10,7 +10,7 @@ use Rattle.leafd_cli.specs.Keeping.{IsNumbered, AllNumbered}
 -- an entry that may stand next in a log and keeps what the stream copies
 pub record Goes (s : StreamLog) (e : Entry) : Type 0 where
   pub above : IsAbove (last s.entries) e
-  pub below : number_of e < 2 ^ 63
+  pub below : number_put e < 2 ^ 63
   pub same : (limits_after (limits_of s) e).copies ≡ (limits_of s).copies
 
 pub numbered-push : (s : StreamLog) (e : Entry) → IsNumbered s → Goes s e → IsNumbered (record s { entries = s.entries ++ e ∷ [] })

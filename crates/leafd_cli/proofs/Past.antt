@@ -7,7 +7,7 @@ use Rattle.stream_fold.specs.declared.entry.Numbered.{Numbered}
 use Rattle.stream_fold.specs.Histories.{kept}
 use Rattle.stream_fold.proofs.KeptRows.{Rises, seqs, kept-rises}
 use Rattle.leafd_cli.specs.Logs.{StreamLog, history_of}
-use Rattle.leafd_cli.specs.Legal.{origin_of}
+use Rattle.leafd_cli.specs.Legal.{origin_among}
 use Rattle.leafd_cli.specs.Plain.{rows_past}
 use Rattle.leafd_cli.specs.Keeping.{AllNumbered}
 use Rattle.leafd_cli.proofs.Steps.{origin_numbered}
@@ -25,7 +25,7 @@ never_falls low (r ∷ rows) rise (suc i) zero d le h = absurd (omega (arith, le
 never_falls low (r ∷ rows) rise (suc i) (suc j) d le h = never_falls (suc r.seq) rows rise.1 i j d (omega (arith, le)) (omega (arith, h))
 
 -- the numbers of what an origin keeps never fall
-pub origin_rows : (want : Origin) (streams : List StreamLog) (o : StreamLog) → AllNumbered streams → origin_of want streams ≡ Some o → IsNonDecreasingBy (λ (r : Numbered). r.seq) (kept (history_of o))
+pub origin_rows : (want : Origin) (streams : List StreamLog) (o : StreamLog) → AllNumbered streams → origin_among want streams ≡ Some o → IsNonDecreasingBy (λ (r : Numbered). r.seq) (kept (history_of o))
 origin_rows want streams o n e = never_falls 0 (kept (history_of o)) (kept-rises (history_of o) (origin_numbered want.node want.stream streams o n e).rising)
 
 -- the rows from a place on are those past a number, where those before it are not past it and those from it on are

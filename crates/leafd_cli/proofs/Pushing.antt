@@ -7,8 +7,8 @@ use Rattle.shard_store.specs.declared.fault.Part.TheVariants.{Main, Spare}
 use Rattle.leafd_cli.specs.declared.inspect.InspectFault.{InspectFault}
 use Rattle.leafd_cli.specs.declared.inspect.InspectFault.TheVariants.{Read, Disk, BadJournal, TooLong, NoMemory}
 use Rattle.leafd_cli.specs.Folders.{path}
-use Rattle.leafd_cli.specs.Inspecting.{ShowsShard, ShowsBelow, IsShardText, IsFirstFault, IsBadAt, IsLongBy}
-use Rattle.leafd_cli.specs.Inspections.{Reads, ReadsOf, Pushes, Reports, FaultIn}
+use Rattle.leafd_cli.specs.Inspecting.{ShowsShard, ShowsBelow, IsShardText, FaultIn, IsFirstFault, IsBadAt, IsLongBy}
+use Rattle.leafd_cli.specs.Inspections.{ReadsDisks, ReadsShard, Pushes, Reports}
 
 parts_apart : codes ".b" ≢ codes ".a"
 parts_apart same = absurd (grind (arith, same))
@@ -18,7 +18,7 @@ pub paths_apart : (dir : List ℕ) (shard : ℕ) → path dir shard Spare ≢ pa
 paths_apart dir shard same = parts_apart (append_cancel_left (decimal shard) _ _ (append_cancel_left (codes "shard-") _ _ (append_cancel_left (47 ∷ []) _ _ (append_cancel_left dir _ _ same))))
 
 -- the disks of the shard are at fault
-pub shard_faulted : (files : List ℕ → Option (List ℕ)) (dir : List ℕ) (shard : ℕ) (a : List ℕ) (b : Option (List ℕ)) (fault : InspectFault) → files (path dir shard Main) ≡ Some a → files (path dir shard Spare) ≡ b → Reads shard a b (Err fault) → ReadsOf files dir shard (Err fault)
+pub shard_faulted : (files : List ℕ → Option (List ℕ)) (dir : List ℕ) (shard : ℕ) (a : List ℕ) (b : Option (List ℕ)) (fault : InspectFault) → files (path dir shard Main) ≡ Some a → files (path dir shard Spare) ≡ b → ReadsDisks shard a b (Err fault) → ReadsShard files dir shard (Err fault)
 shard_faulted files dir shard a b Read here spare read = tt
 shard_faulted files dir shard a b Disk here spare read = tt
 shard_faulted files dir shard a b (BadJournal name place) here spare read = record { bytes = a; here = here; part = read.0; fault = subst (λ o. IsBadAt place a o read.0) (sym spare) read.1; name_is = read.2 }
@@ -38,11 +38,13 @@ first_fault Fault f g dir name before shard same within shown fault = record {
   within = within;
   before = before;
   earlier = shown;
-  bytes = fault.bytes;
-  here = sym (same (path dir shard Main)) ∙ fault.here;
-  part = fault.part;
-  fault = subst (λ (o : Option (List ℕ)). Fault fault.bytes o fault.part) (same (path dir shard Spare)) fault.fault;
-  name_is = fault.name_is;
+  fault = record {
+    bytes = fault.bytes;
+    here = sym (same (path dir shard Main)) ∙ fault.here;
+    part = fault.part;
+    fault = subst (λ (o : Option (List ℕ)). Fault fault.bytes o fault.part) (same (path dir shard Spare)) fault.fault;
+    name_is = fault.name_is;
+  };
 }
 
 pub fault_reported : (tells : Type 0) (f g : List ℕ → Option (List ℕ)) (dir before new : List ℕ) (shard : ℕ) (fault : InspectFault) → (tells → (n : List ℕ) → g n ≡ f n) → shard < 8 → (tells → ShowsBelow f dir shard before) → Pushes tells g dir shard before new (Err fault) → Reports tells f dir (Err fault)

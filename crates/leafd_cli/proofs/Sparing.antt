@@ -3,7 +3,7 @@ use Rattle.std.proofs.Common.{◌≡◌, ◌≢◌, ◌==◌, true, false, ℕ, 
 use Rattle.std.specs.Prelude.{Bool, Option, Some, None, Ok, Err, MatchOption, MatchBool, min}
 use Rattle.std.specs.Option.{option_map}
 use Rattle.std.proofs.lemmas.Bool.Decides.{nat_tests}
-use Rattle.leaf_edges.specs.Causes.{Rose}
+use Rattle.leaf_edges.specs.Causes.{RoseByOne}
 use Rattle.leaf_edges.specs.Disks.{Op, Unchanged}
 use Rattle.leaf_edges.specs.Files.{TellsAs, IsEmptyDisk, HandsOut, GoesOut, GoesBack, SameFiles, IfHanded, CountsDisk}
 use Rattle.stream_fold.specs.declared.entry.Numbered.{Numbered}
@@ -13,7 +13,8 @@ use Rattle.shard_store.specs.declared.fault.StoreFault.TheVariants.{ReadFault, B
 use Rattle.shard_store.specs.Stores.{ReadsStore, OnSpares, SpareHas, StoreCauses}
 use Rattle.leafd_cli.specs.declared.inspect.InspectFault.{InspectFault}
 use Rattle.leafd_cli.specs.Folders.{contents, KeepsFiles}
-use Rattle.leafd_cli.specs.Inspections.{Reads, HasRead, TurnsInto, GoesUp}
+use Rattle.leafd_cli.specs.Inspections.{ReadsDisks, HasRead, TurnsInto}
+use Rattle.leafd_cli.specs.Outcome.{GoesUp}
 use Rattle.leafd_cli.proofs.Handing.{keeps_same, keeps_of_same, out_and_back}
 
 module _ {F D : Type 0} (place : F → List ℕ → Option D) (is_out : F → List ℕ → Bool) (seen : D → List ℕ) (handed : F → List (List ℕ)) (text_of : F → List ℕ → Option (List ℕ)) where
@@ -55,11 +56,11 @@ module _ {D : Type 0} (seen : D → List ℕ) (images : D → List ℕ → Type 
   same_seen (Some d) (Some d') same = ap Some (sym same)
 
 -- what is told of the fault is right of the disks
-pub fault_told : (shard : ℕ) (a : List ℕ) (b : Option (List ℕ)) (fault : StoreFault) (told : InspectFault) → TurnsInto shard fault told → ReadsStore a b (Err fault) → Reads shard a b (Err told)
-fault_told shard a b ReadFault told is read = subst (λ (t : InspectFault). Reads shard a b (Err t)) (sym is) tt
-fault_told shard a b (BadJournal part place) told is read = ⊎_elim (λ named. subst (λ (t : InspectFault). Reads shard a b (Err t)) (sym named) (part, read, refl)) (λ none. subst (λ (t : InspectFault). Reads shard a b (Err t)) (sym none) tt) is
-fault_told shard a b (TooLong part len) told is read = ⊎_elim (λ named. subst (λ (t : InspectFault). Reads shard a b (Err t)) (sym named) (part, read, refl)) (λ none. subst (λ (t : InspectFault). Reads shard a b (Err t)) (sym none) tt) is
-fault_told shard a b NoMemory told is read = subst (λ (t : InspectFault). Reads shard a b (Err t)) (sym is) tt
+pub fault_told : (shard : ℕ) (a : List ℕ) (b : Option (List ℕ)) (fault : StoreFault) (told : InspectFault) → TurnsInto shard fault told → ReadsStore a b (Err fault) → ReadsDisks shard a b (Err told)
+fault_told shard a b ReadFault told is read = subst (λ (t : InspectFault). ReadsDisks shard a b (Err t)) (sym is) tt
+fault_told shard a b (BadJournal part place) told is read = ⊎_elim (λ named. subst (λ (t : InspectFault). ReadsDisks shard a b (Err t)) (sym named) (part, read, refl)) (λ none. subst (λ (t : InspectFault). ReadsDisks shard a b (Err t)) (sym none) tt) is
+fault_told shard a b (TooLong part len) told is read = ⊎_elim (λ named. subst (λ (t : InspectFault). ReadsDisks shard a b (Err t)) (sym named) (part, read, refl)) (λ none. subst (λ (t : InspectFault). ReadsDisks shard a b (Err t)) (sym none) tt) is
+fault_told shard a b NoMemory told is read = subst (λ (t : InspectFault). ReadsDisks shard a b (Err t)) (sym is) tt
 
 counts_none : (n disks disks' : ℕ) → n ≡ 0 → CountsDisk n disks disks' → disks' ≡ disks
 counts_none n disks disks' none counts = subst (λ (k : ℕ). CountsDisk k disks disks') none counts
@@ -72,7 +73,7 @@ counts_one n disks disks' false none some counts = counts
 abbrev Ends : Type 0
 Ends = ℕ × List (Facts × List Numbered)
 
-some : {n m : ℕ} → min (n + 1) (2 ^ 64 - 1) ≤ m → n ≡ 0 → m ≢ 0
+some : {n m : ℕ} → RoseByOne n m → n ≡ 0 → m ≢ 0
 some rose none zero = absurd (omega (arith, rose, none, zero))
 
 module _ {D : Type 0} (faults : D → ℕ) where
@@ -84,18 +85,18 @@ module _ {D : Type 0} (faults : D → ℕ) where
   spare_fine (Some d) (Some d') disks disks' fresh same counts = counts_none (faults d') disks disks' (same ∙ fresh) counts
 
   -- the spare came back with a fault
-  spare_failed : (spare spare' : Option D) (disks disks' : ℕ) → IfHanded (Ok spare) (λ d. faults d ≡ 0) (Unit {0}) → SpareHas (λ s t. Rose (faults s) (faults t)) spare spare' → MatchOption spare' (disks' ≡ disks) (λ d. CountsDisk (faults d) disks disks') → GoesUp disks disks'
+  spare_failed : (spare spare' : Option D) (disks disks' : ℕ) → IfHanded (Ok spare) (λ d. faults d ≡ 0) (Unit {0}) → SpareHas (λ s t. RoseByOne (faults s) (faults t)) spare spare' → MatchOption spare' (disks' ≡ disks) (λ d. CountsDisk (faults d) disks disks') → GoesUp disks disks'
   spare_failed None None disks disks' fresh rose counts = elim rose [ ]
   spare_failed None (Some d') disks disks' fresh rose counts = elim rose [ ]
   spare_failed (Some d) None disks disks' fresh rose counts = elim rose [ ]
-  spare_failed (Some d) (Some d') disks disks' fresh rose counts = counts_one (faults d') disks disks' (faults d' == 0) refl (omega (arith, fresh, rose.1)) counts
+  spare_failed (Some d) (Some d') disks disks' fresh rose counts = counts_one (faults d') disks disks' (faults d' == 0) refl (omega (arith, fresh, rose)) counts
 
   -- when each fault of a shard comes
   pub causes_told : (shard : ℕ) (fault : StoreFault) (told : InspectFault) (old new : D) (spare spare' : Option D) (before now disks disks' : ℕ) → TurnsInto shard fault told → faults old ≡ 0 → now ≡ before → IfHanded (Ok spare) (λ d. faults d ≡ 0) (Unit {0}) → StoreCauses {T = Ends} faults old new spare spare' (Err fault) → MatchOption spare' (disks' ≡ disks) (λ d. CountsDisk (faults d) disks disks') → HasRead {T = Ends} (faults new) before now disks disks' (Err told)
   causes_told shard ReadFault told old new spare spare' before now disks disks' is none stays fresh cause counts =
       subst (λ (t : InspectFault). HasRead {T = Ends} (faults new) before now disks disks' (Err t)) (sym is)
       (⊎_elim
-      (λ own. (stays, inl (some own.0.1 none, spare_fine spare spare' disks disks' fresh own.1 counts)))
+      (λ own. (stays, inl (some own.0 none, spare_fine spare spare' disks disks' fresh own.1 counts)))
       (λ its. (stays, inr (its.0 ∙ none, spare_failed spare spare' disks disks' fresh its.1 counts)))
       cause)
   causes_told shard (BadJournal part place) told old new spare spare' before now disks disks' is none stays fresh cause counts =

@@ -15,7 +15,7 @@ use Rattle.stream_fold.specs.Copying.{IsStored, IsLeftOut, IsRightStart, bound}
 use Rattle.stream_fold.proofs.Growth.{put-stays}
 use Rattle.stream_fold.proofs.KeptRows.{IsHole-stays}
 use Rattle.leafd_cli.specs.Logs.{StreamLog, history_of, is_at, stream_at}
-use Rattle.leafd_cli.specs.Legal.{stream_of, origin_of}
+use Rattle.leafd_cli.specs.Legal.{stream_among, origin_among}
 use Rattle.leafd_cli.specs.Copies.{CopyHolds}
 use Rattle.leafd_cli.specs.Keeping.{KeepsCopy, AllKeep, IsNumbered, AllNumbered}
 use Rattle.leafd_cli.proofs.Joined.{not_some}
@@ -78,7 +78,7 @@ found_grown node name (s ∷ old) (t ∷ new) o g e =
     ] in
     go (is_at node name s) refl e
 
-origin_grown : (node : Option (List ℕ)) (name : List ℕ) (old new : List StreamLog) (o : StreamLog) → AllGrown old new → stream_of node name old ≡ Some o → (t : StreamLog) × (stream_of node name new ≡ Some t) × Grows o t
+origin_grown : (node : Option (List ℕ)) (name : List ℕ) (old new : List StreamLog) (o : StreamLog) → AllGrown old new → stream_among node name old ≡ Some o → (t : StreamLog) × (stream_among node name new ≡ Some t) × Grows o t
 origin_grown None name old new o g e = not_some o e
 origin_grown (Some node) name old new o g e = found_grown node name old new o g e
 
@@ -151,12 +151,12 @@ stream_at-append node name (s ∷ streams) more o e =
     let go : (b : Bool) → P b = λ b. elim b as P [ true ↦ (λ f. f) | false ↦ (λ f. stream_at-append node name streams more o f) ] in
     go (is_at node name s) e
 
-stream_of-append : (node : Option (List ℕ)) (name : List ℕ) (streams more : List StreamLog) (o : StreamLog) → stream_of node name streams ≡ Some o → stream_of node name (streams ++ more) ≡ Some o
-stream_of-append None name streams more o e = not_some o e
-stream_of-append (Some node) name streams more o e = stream_at-append node name streams more o e
+stream_among-append : (node : Option (List ℕ)) (name : List ℕ) (streams more : List StreamLog) (o : StreamLog) → stream_among node name streams ≡ Some o → stream_among node name (streams ++ more) ≡ Some o
+stream_among-append None name streams more o e = not_some o e
+stream_among-append (Some node) name streams more o e = stream_at-append node name streams more o e
 
-pub origin_of-append : (want : Origin) (streams more : List StreamLog) (o : StreamLog) → origin_of want streams ≡ Some o → origin_of want (streams ++ more) ≡ Some o
-origin_of-append want streams more o e = stream_of-append want.node want.stream streams more o e
+pub origin_among-append : (want : Origin) (streams more : List StreamLog) (o : StreamLog) → origin_among want streams ≡ Some o → origin_among want (streams ++ more) ≡ Some o
+origin_among-append want streams more o e = stream_among-append want.node want.stream streams more o e
 
 -- a stream that is found is numbered like all
 pub found_numbered : (node name : List ℕ) (streams : List StreamLog) (o : StreamLog) → AllNumbered streams → stream_at node name streams ≡ Some o → IsNumbered o
@@ -169,6 +169,6 @@ found_numbered node name (s ∷ streams) o n e =
     ] in
     go (is_at node name s) e
 
-pub origin_numbered : (node : Option (List ℕ)) (name : List ℕ) (streams : List StreamLog) (o : StreamLog) → AllNumbered streams → stream_of node name streams ≡ Some o → IsNumbered o
+pub origin_numbered : (node : Option (List ℕ)) (name : List ℕ) (streams : List StreamLog) (o : StreamLog) → AllNumbered streams → stream_among node name streams ≡ Some o → IsNumbered o
 origin_numbered None name streams o n e = not_some o e
 origin_numbered (Some node) name streams o n e = found_numbered node name streams o n e

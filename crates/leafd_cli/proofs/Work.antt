@@ -19,9 +19,9 @@ use Rattle.stream_fold.specs.Publishing.{verdict, verdict_behind, repeat_or, fre
 use Rattle.stream_fold.specs.declared.verdict.Refusal.TheVariants.{IsMirror, WrongLast, WrongSubjectLast, TooLarge, SeqEnd}
 use Rattle.nats_text.specs.Headers.{first_value}
 use Rattle.stream_fold.specs.declared.entry.Numbered.{Numbered}
-use Rattle.stream_fold.specs.Histories.{History, either, put, put_by, last, kept, number_of, message_at}
+use Rattle.stream_fold.specs.Histories.{History, either, put, put_by, last, kept, number_put, message_at}
 use Rattle.stream_fold.specs.Copying.{bound, bound_by, bindings, binding_at, IsStored, IsLeftOut}
-use Rattle.stream_fold.specs.Held.{Fits, held_of}
+use Rattle.stream_fold.specs.Fits.{Fits}
 use Rattle.stream_fold.proofs.Folds.{last-push, bindings-push}
 use Rattle.stream_fold.proofs.Growth.{put-append}
 use Rattle.leafd_cli.specs.declared.operation.Operation.{Operation}
@@ -31,7 +31,7 @@ use Rattle.leafd_cli.specs.Logs.{StreamLog, history_of, limits_of, is_at}
 use Rattle.leafd_cli.specs.Legal.{with_changes, changed_to}
 use Rattle.leafd_cli.specs.Copies.{CopyHolds}
 use Rattle.leafd_cli.specs.Effects.{effect, message_of, publish_effect, published, takes, taking}
-use Rattle.leafd_cli.specs.Operations.{Task, with_entry, worked, worked_in}
+use Rattle.leafd_cli.specs.Operations.{Task, appended, worked, worked_in}
 use Rattle.leafd_cli.specs.Keeping.{KeepsCopy, IsNumbered, AllNumbered}
 use Rattle.leafd_cli.proofs.Joined.{not_some, either-none}
 use Rattle.leafd_cli.proofs.Numbers.{Goes, numbered-push}
@@ -41,12 +41,12 @@ use Rattle.leafd_cli.proofs.Steps.{Steps, AllStep, step_none, all_step_none}
 pub record IsQuiet (e : Entry) : Type 0 where
   pub puts : (seq : ℕ) → put_by seq e ≡ None
   pub binds : bound_by e ≡ []
-  pub number : number_of e ≡ 0
+  pub number : number_put e ≡ 0
 
 -- an entry that the stream's own operation may make
 pub record Suits (s : StreamLog) (e : Entry) : Type 0 where
   pub goes : Goes s e
-  pub fits : Fits (held_of (history_of s)) e
+  pub fits : Fits (history_of s) e
   -- a mirror puts and binds nothing by itself
   pub mirrors : is_mirror s.config.copies ≡ true → IsQuiet e
 
@@ -205,7 +205,7 @@ quiet_keeps before s e (Mirror want) q k =
     (k.0, k.1, k.2, subst P (sym (bound-quiet s.entries e quiet)) (holds_same (bound 0 s.entries) want.start (history_of k.0) s.entries (s.entries ++ e ∷ []) (λ seq. put-quiet s.entries e seq quiet) (omega (arith, last-push s.entries e, quiet.number)) k.3))
 quiet_keeps before s e (Sources wants) q k = k
 
-worked_steps : (before : List StreamLog) (s : StreamLog) (o : Option Entry) → IsNumbered s → ((e : Entry) → o ≡ Some e → Suits s e) → Steps before s (with_entry o s)
+worked_steps : (before : List StreamLog) (s : StreamLog) (o : Option Entry) → IsNumbered s → ((e : Entry) → o ≡ Some e → Suits s e) → Steps before s (appended o s)
 worked_steps before s None n q = step_none before s n
 worked_steps before s (Some e) n q =
     let suits = q e refl in
@@ -214,7 +214,7 @@ worked_steps before s (Some e) n q =
       own = quiet_keeps before s e s.config.copies suits.mirrors;
     }
 
-worked_numbered : (s : StreamLog) (o : Option Entry) → IsNumbered s → ((e : Entry) → o ≡ Some e → Suits s e) → IsNumbered (with_entry o s)
+worked_numbered : (s : StreamLog) (o : Option Entry) → IsNumbered s → ((e : Entry) → o ≡ Some e → Suits s e) → IsNumbered (appended o s)
 worked_numbered s None n q = n
 worked_numbered s (Some e) n q = numbered-push s e n (q e refl).goes
 

@@ -3,7 +3,7 @@ use Rattle.std.specs.Prelude.{◌≡◌, ℕ, ◌+◌, List, [], ◌∷◌, ◌+
 use Rattle.leafd_script.specs.declared.line.Line.{Line}
 use Rattle.leafd_script.specs.declared.line.Line.TheVariants.{Settle}
 use Rattle.leafd_cli.specs.Logs.{Logs, no_logs}
-use Rattle.leafd_cli.specs.Rows.{Row}
+use Rattle.leafd_cli.specs.ScriptLines.{ScriptLine}
 use Rattle.leafd_cli.specs.Legal.{judged}
 use Rattle.leafd_cli.specs.Operations.{nodes_after, clock_after, quiet_after, operated, AllGrow}
 use Rattle.leafd_cli.specs.Copies.{AreRight, AreThrough}
@@ -25,28 +25,28 @@ pub record Leads (old : Logs) (line : Line) (new : Logs) : Type 0 where
   pub right : AreRight new.streams new.streams
   pub settled : IsSettledBy line new
 
--- what a row says leads to the next logs; an empty line and a comment change nothing
+-- what a line says leads to the next logs; an empty line and a comment change nothing
 abbrev pub LeadsOn : Logs → Option Line → Logs → Type 0
 LeadsOn old None new = new ≡ old
 LeadsOn old (Some line) new = Leads old line new
 
--- what a row prints
-abbrev pub row_text : ℕ → Logs → Option Line → List ℕ
-row_text number logs None = []
-row_text number logs (Some line) = printed number logs line
+-- what a line prints
+abbrev pub said_text : ℕ → Logs → Option Line → List ℕ
+said_text number logs None = []
+said_text number logs (Some line) = printed number logs line
 
 -- A right book for these lines, from this line number on and from the logs before it, and its report:
 -- each line is legal in its place, leads to the next logs, and prints its part of the report.
-abbrev pub IsBook : ℕ → Logs → List Row → List ℕ → List Logs → Type 0
+abbrev pub IsBook : ℕ → Logs → List ScriptLine → List ℕ → List Logs → Type 0
 IsBook number old [] out [] = out ≡ []
-IsBook number old (row ∷ rows) out (new ∷ book) =
-    (said : Option Line) × (judged old row ≡ Ok said) × LeadsOn old said new × (rest : List ℕ) × (out ≡ row_text number old said ++ rest) × IsBook (number + 1) new rows rest book
+IsBook number old (line ∷ lines) out (new ∷ book) =
+    (said : Option Line) × (judged old line ≡ Ok said) × LeadsOn old said new × (rest : List ℕ) × (out ≡ said_text number old said ++ rest) × IsBook (number + 1) new lines rest book
 IsBook number old [] out (new ∷ book) = ⊥
-IsBook number old (row ∷ rows) out [] = ⊥
+IsBook number old (line ∷ lines) out [] = ⊥
 
 -- `out` is the report of this book for these lines, which begins without nodes
-abbrev pub BookOk : List Row → List ℕ → List Logs → Type 0
-BookOk rows out book = IsBook 1 no_logs rows out book
+abbrev pub BookOk : List ScriptLine → List ℕ → List Logs → Type 0
+BookOk lines out book = IsBook 1 no_logs lines out book
 
 -- the logs at a book's end
 abbrev pub last_logs : Logs → List Logs → Logs

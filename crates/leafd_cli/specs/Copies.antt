@@ -10,7 +10,7 @@ use Rattle.stream_fold.specs.declared.entry.Numbered.{Numbered}
 use Rattle.stream_fold.specs.Histories.{History, put, kept}
 use Rattle.stream_fold.specs.Copying.{bound, front, MirrorHolds, IsRightStart}
 use Rattle.leafd_cli.specs.Logs.{StreamLog, history_of}
-use Rattle.leafd_cli.specs.Legal.{origin_of}
+use Rattle.leafd_cli.specs.Legal.{origin_among}
 
 -- What a mirror has of its origin. One that isn't bound has stored nothing. One that is names the
 -- only incarnation that its origin has had and starts right, and has at each number from its start
@@ -22,7 +22,7 @@ CopyHolds (Some to) start origin copy = (to.incarnation ≡ 1) × IsRightStart o
 -- a mirror whose origin is there has what its origin's log says
 abbrev pub IsRightMirror : List StreamLog → StreamLog → Origin → Type 0
 IsRightMirror streams copy want =
-    (origin : StreamLog) × (origin_of want streams ≡ Some origin) × CopyHolds (bound 0 copy.entries) want.start (history_of origin) copy.entries
+    (origin : StreamLog) × (origin_among want streams ≡ Some origin) × CopyHolds (bound 0 copy.entries) want.start (history_of origin) copy.entries
 
 abbrev pub IsRightCopy : List StreamLog → StreamLog → Copies → Type 0
 IsRightCopy streams copy Nothing = Unit {0}
@@ -42,7 +42,7 @@ HasAll front (row ∷ rows) = (row.seq ≤ front) × HasAll front rows
 -- a mirror is bound and has come as far as its origin
 abbrev pub IsThroughMirror : List StreamLog → StreamLog → Origin → Type 0
 IsThroughMirror streams copy want =
-    (origin : StreamLog) × (origin_of want streams ≡ Some origin) × (to : BoundTo) × (bound 0 copy.entries ≡ Some to) × HasAll (front want.start copy.entries) (kept (history_of origin))
+    (origin : StreamLog) × (origin_among want streams ≡ Some origin) × (to : BoundTo) × (bound 0 copy.entries ≡ Some to) × HasAll (front want.start copy.entries) (kept (history_of origin))
 
 abbrev pub IsThrough : List StreamLog → StreamLog → Copies → Type 0
 IsThrough streams copy Nothing = Unit {0}

@@ -41,17 +41,21 @@ abbrev pub ShowsBelow : (List ℕ → Option (List ℕ)) → List ℕ → ℕ �
 ShowsBelow files dir zero text = text ≡ []
 ShowsBelow files dir (suc shard) text = (before : List ℕ) × (here : List ℕ) × (text ≡ before ++ here) × ShowsBelow files dir shard before × ShowsShard files dir shard here
 
--- the first shard whose disks are at fault, and the name of the file that is
-pub record IsFirstFault (Fault : List ℕ → Option (List ℕ) → Part → Type 0) (files : List ℕ → Option (List ℕ)) (dir : List ℕ) (name : List ℕ) : Type 0 where
-  pub shard : ℕ
-  pub within : shard < shard_count
-  pub before : List ℕ
-  pub earlier : ShowsBelow files dir shard before
+-- the disks of a shard of a folder are at fault, and this is the name of the file that is
+pub record FaultIn (Fault : List ℕ → Option (List ℕ) → Part → Type 0) (files : List ℕ → Option (List ℕ)) (dir : List ℕ) (shard : ℕ) (name : List ℕ) : Type 0 where
   pub bytes : List ℕ
   pub here : files (path dir shard Main) ≡ Some bytes
   pub part : Part
   pub fault : Fault bytes (files (path dir shard Spare)) part
   pub name_is : name ≡ file_name shard part
+
+-- the first shard whose disks are at fault
+pub record IsFirstFault (Fault : List ℕ → Option (List ℕ) → Part → Type 0) (files : List ℕ → Option (List ℕ)) (dir : List ℕ) (name : List ℕ) : Type 0 where
+  pub shard : ℕ
+  pub within : shard < shard_count
+  pub before : List ℕ
+  pub earlier : ShowsBelow files dir shard before
+  pub fault : FaultIn Fault files dir shard name
 
 abbrev pub IsBadAt : ℕ → List ℕ → Option (List ℕ) → Part → Type 0
 IsBadAt place a b part = AreShort a b × IsBadStore a b part place

@@ -20,19 +20,20 @@ use Rattle.leafd_cli.specs.declared.inspect.InspectFault.TheVariants.{Read, Disk
 use Rattle.leafd_cli.specs.declared.status.Status.{Status}
 use Rattle.leafd_cli.specs.declared.status.Status.TheVariants as ended
 use Rattle.leafd_cli.specs.Folders.{file_name, path}
-use Rattle.leafd_cli.specs.Inspecting.{shard_count, ShowsShard, ShowsBelow, IsFirstFault, IsBadAt, IsLongBy}
+use Rattle.leafd_cli.specs.Outcome.{GoesUp}
+use Rattle.leafd_cli.specs.Inspecting.{shard_count, ShowsShard, ShowsBelow, FaultIn, IsFirstFault, IsBadAt, IsLongBy}
 
 -- a failure of the files
 abbrev pub edge_fault : EdgeError → InspectFault
 edge_fault Failed = Read
 edge_fault NoRoom = NoMemory
 
-abbrev pub status_of : InspectFault → Status
-status_of Read = ended.ReadFault
-status_of Disk = ended.DiskFault
-status_of (BadJournal name place) = ended.BadJournal name place
-status_of (TooLong name len) = ended.JournalTooLong name len
-status_of NoMemory = ended.NoMemory
+abbrev pub fault_status : InspectFault → Status
+fault_status Read = ended.ReadFault
+fault_status Disk = ended.DiskFault
+fault_status (BadJournal name place) = ended.BadJournal name place
+fault_status (TooLong name len) = ended.JournalTooLong name len
+fault_status NoMemory = ended.NoMemory
 
 -- the report was written, or a prefix of it
 abbrev pub Writes : Option (List ℕ) → Option (List ℕ) → List ℕ → Status → Type 0
@@ -47,68 +48,44 @@ TurnsInto shard (LongStore part len) fault = (fault ≡ TooLong (file_name shard
 TurnsInto shard NoRoomRead fault = fault ≡ NoMemory
 
 -- the opening's number and the streams of the log for which two disks stand, or what is wrong with them
-abbrev pub Reads : ℕ → List ℕ → Option (List ℕ) → Result (ℕ × List (Facts × List Numbered)) InspectFault → Type 0
-Reads shard a b (Ok found) = (log : List Rec) × StoreHolds log a b × (found.0 ≡ boot log) × AreStreams log found.1
-Reads shard a b (Err Read) = Unit {0}
-Reads shard a b (Err Disk) = Unit {0}
-Reads shard a b (Err (BadJournal name place)) = (part : Part) × IsBadAt place a b part × (name ≡ file_name shard part)
-Reads shard a b (Err (TooLong name len)) = (part : Part) × IsLongBy len a b part × (name ≡ file_name shard part)
-Reads shard a b (Err NoMemory) = Unit {0}
-
--- the disks of a shard of a folder are at fault
-pub record FaultIn (Fault : List ℕ → Option (List ℕ) → Part → Type 0) (files : List ℕ → Option (List ℕ)) (dir : List ℕ) (shard : ℕ) (name : List ℕ) : Type 0 where
-  pub bytes : List ℕ
-  pub here : files (path dir shard Main) ≡ Some bytes
-  pub part : Part
-  pub fault : Fault bytes (files (path dir shard Spare)) part
-  pub name_is : name ≡ file_name shard part
+abbrev pub ReadsDisks : ℕ → List ℕ → Option (List ℕ) → Result (ℕ × List (Facts × List Numbered)) InspectFault → Type 0
+ReadsDisks shard a b (Ok found) = (log : List Rec) × StoreHolds log a b × (found.0 ≡ boot log) × AreStreams log found.1
+ReadsDisks shard a b (Err (BadJournal name place)) = (part : Part) × IsBadAt place a b part × (name ≡ file_name shard part)
+ReadsDisks shard a b (Err (TooLong name len)) = (part : Part) × IsLongBy len a b part × (name ≡ file_name shard part)
+ReadsDisks shard a b (Err fault) = Unit {0}
 
 -- the streams of a shard of a folder, none where its first disk isn't there, or its disks are at fault
-abbrev pub ReadsOf : (List ℕ → Option (List ℕ)) → List ℕ → ℕ → Result (Option (ℕ × List (Facts × List Numbered))) InspectFault → Type 0
-ReadsOf files dir shard (Ok None) = files (path dir shard Main) ≡ None
-ReadsOf files dir shard (Ok (Some found)) = (a : List ℕ) × (files (path dir shard Main) ≡ Some a) × Reads shard a (files (path dir shard Spare)) (Ok found)
-ReadsOf files dir shard (Err Read) = Unit {0}
-ReadsOf files dir shard (Err Disk) = Unit {0}
-ReadsOf files dir shard (Err (BadJournal name place)) = FaultIn (IsBadAt place) files dir shard name
-ReadsOf files dir shard (Err (TooLong name len)) = FaultIn (IsLongBy len) files dir shard name
-ReadsOf files dir shard (Err NoMemory) = Unit {0}
+abbrev pub ReadsShard : (List ℕ → Option (List ℕ)) → List ℕ → ℕ → Result (Option (ℕ × List (Facts × List Numbered))) InspectFault → Type 0
+ReadsShard files dir shard (Ok None) = files (path dir shard Main) ≡ None
+ReadsShard files dir shard (Ok (Some found)) = (a : List ℕ) × (files (path dir shard Main) ≡ Some a) × ReadsDisks shard a (files (path dir shard Spare)) (Ok found)
+ReadsShard files dir shard (Err (BadJournal name place)) = FaultIn (IsBadAt place) files dir shard name
+ReadsShard files dir shard (Err (TooLong name len)) = FaultIn (IsLongBy len) files dir shard name
+ReadsShard files dir shard (Err fault) = Unit {0}
 
 -- what is printed of a shard was added, or its disks are at fault
 abbrev pub Pushes : Type 0 → (List ℕ → Option (List ℕ)) → List ℕ → ℕ → List ℕ → List ℕ → Result Unit InspectFault → Type 0
 Pushes tells files dir shard old new (Ok value) = (here : List ℕ) × (new ≡ old ++ here) × (tells → ShowsShard files dir shard here)
-Pushes tells files dir shard old new (Err Read) = Unit {0}
-Pushes tells files dir shard old new (Err Disk) = Unit {0}
 Pushes tells files dir shard old new (Err (BadJournal name place)) = tells → FaultIn (IsBadAt place) files dir shard name
 Pushes tells files dir shard old new (Err (TooLong name len)) = tells → FaultIn (IsLongBy len) files dir shard name
-Pushes tells files dir shard old new (Err NoMemory) = Unit {0}
+Pushes tells files dir shard old new (Err fault) = Unit {0}
 
 -- what is printed of all shards, or the first whose disks are at fault
 abbrev pub Reports : Type 0 → (List ℕ → Option (List ℕ)) → List ℕ → Result (Vec ℕ) InspectFault → Type 0
 Reports tells files dir (Ok report) = tells → ShowsBelow files dir shard_count report.items
-Reports tells files dir (Err Read) = Unit {0}
-Reports tells files dir (Err Disk) = Unit {0}
 Reports tells files dir (Err (BadJournal name place)) = tells → IsFirstFault (IsBadAt place) files dir name
 Reports tells files dir (Err (TooLong name len)) = tells → IsFirstFault (IsLongBy len) files dir name
-Reports tells files dir (Err NoMemory) = Unit {0}
-
--- a count went up by one, up to its type's end
-abbrev pub GoesUp : ℕ → ℕ → Type 0
-GoesUp before now = now ≡ min (before + 1) (2 ^ 64 - 1)
+Reports tells files dir (Err fault) = Unit {0}
 
 -- the files' count of faults rose, or that of disk faults went up, or both stayed
 abbrev pub HasReadAll : {T : Type 0} → ℕ → ℕ → ℕ → ℕ → Result T InspectFault → Type 0
 HasReadAll before now disks disks' (Ok value) = (now ≡ before) × (disks' ≡ disks)
 HasReadAll before now disks disks' (Err Read) = Rose before now × (disks' ≡ disks)
 HasReadAll before now disks disks' (Err Disk) = (now ≡ before) × GoesUp disks disks'
-HasReadAll before now disks disks' (Err (BadJournal name place)) = (now ≡ before) × (disks' ≡ disks)
-HasReadAll before now disks disks' (Err (TooLong name len)) = (now ≡ before) × (disks' ≡ disks)
-HasReadAll before now disks disks' (Err NoMemory) = (now ≡ before) × (disks' ≡ disks)
+HasReadAll before now disks disks' (Err fault) = (now ≡ before) × (disks' ≡ disks)
 
 -- the same while the first disk of a shard is out, with this count of faults of its own
 abbrev pub HasRead : {T : Type 0} → ℕ → ℕ → ℕ → ℕ → ℕ → Result T InspectFault → Type 0
 HasRead own before now disks disks' (Ok value) = (own ≡ 0) × (now ≡ before) × (disks' ≡ disks)
 HasRead own before now disks disks' (Err Read) = (own ≡ 0) × Rose before now × (disks' ≡ disks)
 HasRead own before now disks disks' (Err Disk) = (now ≡ before) × (((own ≢ 0) × (disks' ≡ disks)) ⊎ ((own ≡ 0) × GoesUp disks disks'))
-HasRead own before now disks disks' (Err (BadJournal name place)) = (own ≡ 0) × (now ≡ before) × (disks' ≡ disks)
-HasRead own before now disks disks' (Err (TooLong name len)) = (own ≡ 0) × (now ≡ before) × (disks' ≡ disks)
-HasRead own before now disks disks' (Err NoMemory) = (own ≡ 0) × (now ≡ before) × (disks' ≡ disks)
+HasRead own before now disks disks' (Err fault) = (own ≡ 0) × (now ≡ before) × (disks' ≡ disks)

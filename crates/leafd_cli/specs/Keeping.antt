@@ -9,14 +9,14 @@ use Rattle.stream_fold.specs.Copying.{bound}
 use Rattle.leafd_script.specs.declared.line.Line.{Line}
 use Rattle.leafd_script.specs.Lines.{MirrorsAnother, CopiesNothing}
 use Rattle.leafd_cli.specs.Logs.{StreamLog, history_of, limits_of}
-use Rattle.leafd_cli.specs.Legal.{origin_of}
+use Rattle.leafd_cli.specs.Legal.{origin_among}
 use Rattle.leafd_cli.specs.Copies.{CopyHolds}
 
 -- a mirror copies a stream that was made before it, from its first number on, and has what that
 -- one's log says
 abbrev pub KeepsCopy : List StreamLog → StreamLog → Copies → Type 0
 KeepsCopy before copy Nothing = Unit {0}
-KeepsCopy before copy (Mirror want) = (origin : StreamLog) × (origin_of want before ≡ Some origin) × (want.start ≡ Seq 1) × CopyHolds (bound 0 copy.entries) want.start (history_of origin) copy.entries
+KeepsCopy before copy (Mirror want) = (origin : StreamLog) × (origin_among want before ≡ Some origin) × (want.start ≡ Seq 1) × CopyHolds (bound 0 copy.entries) want.start (history_of origin) copy.entries
 KeepsCopy before copy (Sources wants) = ⊥
 
 -- each of the streams that were made behind these keeps so
@@ -34,7 +34,7 @@ abbrev pub AllNumbered : List StreamLog → Type 0
 AllNumbered [] = Unit {0}
 AllNumbered (s ∷ streams) = IsNumbered s × AllNumbered streams
 
-pub record IsKept (streams : List StreamLog) : Type 0 where
+pub record AreSound (streams : List StreamLog) : Type 0 where
   pub copies : AllKeep [] streams
   pub numbers : AllNumbered streams
 

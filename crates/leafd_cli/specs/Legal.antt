@@ -17,7 +17,7 @@ use Rattle.leafd_script.specs.declared.line.Line.TheVariants.{Node, Stream, Mirr
 use Rattle.leafd_script.specs.declared.fault.ScriptKind.{ScriptKind}
 use Rattle.leafd_script.specs.declared.fault.ScriptKind.TheVariants.{BadOption, NodeTaken, NoNode, StreamTaken, NoStream, Overlap, TooMany}
 use Rattle.leafd_cli.specs.Logs.{StreamLog, Logs, limits_of, stream_at, has_node}
-use Rattle.leafd_cli.specs.Rows.{Row, said_by}
+use Rattle.leafd_cli.specs.ScriptLines.{ScriptLine, said_by}
 
 abbrev pub fault_if : Bool → ScriptKind → Option ScriptKind
 fault_if wrong kind = if wrong then Some kind else None
@@ -62,12 +62,12 @@ lacks_node nodes None = false
 lacks_node nodes (Some node) = not (has_node node nodes)
 
 -- the stream that a copy copies
-abbrev pub stream_of : Option (List ℕ) → List ℕ → List StreamLog → Option StreamLog
-stream_of None name streams = None
-stream_of (Some node) name streams = stream_at node name streams
+abbrev pub stream_among : Option (List ℕ) → List ℕ → List StreamLog → Option StreamLog
+stream_among None name streams = None
+stream_among (Some node) name streams = stream_at node name streams
 
-abbrev pub origin_of : Origin → List StreamLog → Option StreamLog
-origin_of origin streams = stream_of origin.node origin.stream streams
+abbrev pub origin_among : Origin → List StreamLog → Option StreamLog
+origin_among origin streams = stream_among origin.node origin.stream streams
 
 -- the origin has 1,024 copies
 abbrev pub is_copied_out : List StreamLog → Option (List ℕ) → List ℕ → Bool
@@ -96,7 +96,7 @@ abbrev pub making_fault : List (List ℕ) → List StreamLog → List ℕ → Co
 making_fault nodes streams node config =
     either (fault_if (not (has_node node nodes) || list_any (λ origin. lacks_node nodes origin.node) (origins_of config.copies)) NoNode)
     (either (fault_if (is_some (stream_at node config.name streams)) StreamTaken)
-    (either (fault_if (list_any (λ origin. is_none (origin_of origin streams)) (origins_of config.copies)) NoStream)
+    (either (fault_if (list_any (λ origin. is_none (origin_among origin streams)) (origins_of config.copies)) NoStream)
     (either (fault_if (is_overlapping node config.subjects streams) Overlap)
     (fault_if (is_one_too_many streams node config) TooMany))))
 
@@ -168,5 +168,5 @@ judged_line logs (Ok None) = Ok None
 judged_line logs (Ok (Some line)) = line_or line (fault_of logs line)
 judged_line logs (Err kind) = Err kind
 
-abbrev pub judged : Logs → Row → Result (Option Line) ScriptKind
-judged logs row = judged_line logs (said_by row)
+abbrev pub judged : Logs → ScriptLine → Result (Option Line) ScriptKind
+judged logs line = judged_line logs (said_by line)

@@ -12,5 +12,7 @@ pub mod Outcome
 pub mod Places
 pub mod Plain
 pub mod Report
-pub mod Rows
+pub mod Reporting
+pub mod Runs
+pub mod ScriptLines
 pub mod Turns

@@ -1,5 +1,5 @@
 -- What a line does to the logs: its own operation, and what copying may add.
-use Rattle.std.specs.Prelude.{◌≡◌, ℕ, Bool, true, List, [], ◌∷◌, ◌++◌, if◌then◌else◌, Option, None, Some}
+use Rattle.std.specs.Prelude.{◌≡◌, ℕ, Bool, true, List, [], ◌∷◌, ◌++◌, if◌then◌else◌, Option, None, Some, IsSome}
 use Rattle.nats_text.specs.Headers.{no_headers}
 use Rattle.stream_fold.specs.declared.config.Config.{Config}
 use Rattle.stream_fold.specs.declared.config.Copies.{Copies}
@@ -7,11 +7,14 @@ use Rattle.stream_fold.specs.declared.config.Copies.TheVariants.{Nothing, Mirror
 use Rattle.stream_fold.specs.declared.entry.Mark.{Mark}
 use Rattle.stream_fold.specs.declared.entry.Entry.{Entry}
 use Rattle.stream_fold.specs.declared.entry.Entry.TheVariants.{Put, Del, Purge, Expire, Bind, Limits}
+use Rattle.stream_fold.specs.Histories.{History, with_entry}
+use Rattle.stream_fold.specs.Copying.{bound}
+use Rattle.stream_fold.specs.Fits.{Fits}
 use Rattle.leafd_script.specs.declared.line.Line.{Line}
 use Rattle.leafd_script.specs.declared.line.Line.TheVariants.{Node, Stream, Mirror, Update, Publish, PublishWithHeaders, Delete, Purge as PurgeLine, Expire as ExpireLine, Clock, Settle, Show, Log, Heads, Quiet}
 use Rattle.leafd_cli.specs.declared.operation.Operation.{Operation}
 use Rattle.leafd_cli.specs.declared.operation.Operation.TheVariants.{Publish as PublishOf, Delete as DeleteOf, Purge as PurgeOf, Expire as ExpireNow, Update as UpdateOf}
-use Rattle.leafd_cli.specs.Logs.{StreamLog, Logs, is_at}
+use Rattle.leafd_cli.specs.Logs.{StreamLog, Logs, is_at, history_of}
 use Rattle.leafd_cli.specs.Effects.{effect}
 
 -- an operation on the stream of this name on this node
@@ -47,13 +50,13 @@ made_by (Stream node config) = new_stream node config ∷ []
 made_by (Mirror node config) = new_stream node config ∷ []
 made_by _ = []
 
-abbrev pub with_entry : Option Entry → StreamLog → StreamLog
-with_entry None s = s
-with_entry (Some entry) s = record s { entries = s.entries ++ entry ∷ [] }
+abbrev pub appended : Option Entry → StreamLog → StreamLog
+appended None s = s
+appended (Some entry) s = record s { entries = s.entries ++ entry ∷ [] }
 
 -- a stream on which an operation was done
 abbrev pub worked : ℕ → Operation → StreamLog → StreamLog
-worked now operation s = with_entry (effect now operation s).entry s
+worked now operation s = appended (effect now operation s).entry s
 
 -- the streams after an operation on one of them
 abbrev pub worked_in : ℕ → Task → List StreamLog → List StreamLog
@@ -88,24 +91,25 @@ abbrev pub IsUnmarked : Option Mark → Type 0
 IsUnmarked None = Unit {0}
 IsUnmarked (Some mark) = ⊥
 
--- an entry that copying makes in a mirror: a Bind, or a Put without a mark
-abbrev pub IsMirroring : Entry → Type 0
-IsMirroring (Put number message mark) = IsUnmarked mark
-IsMirroring (Del number) = ⊥
-IsMirroring (Purge pattern below) = ⊥
-IsMirroring (Expire now) = ⊥
-IsMirroring (Bind index incarnation start) = Unit {0}
-IsMirroring (Limits config) = ⊥
+-- an entry that copying makes in a mirror with this log: a Bind, or, once it is bound, a Put without a mark
+abbrev pub IsMirroring : List Entry → Entry → Type 0
+IsMirroring log (Put number message mark) = IsUnmarked mark × IsSome (bound 0 log)
+IsMirroring log (Del number) = ⊥
+IsMirroring log (Purge pattern below) = ⊥
+IsMirroring log (Expire now) = ⊥
+IsMirroring log (Bind index incarnation start) = Unit {0}
+IsMirroring log (Limits config) = ⊥
 
 -- an entry that copying makes in a stream; no line makes a stream with sources yet
-abbrev pub IsCopying : Copies → Entry → Type 0
-IsCopying Nothing entry = ⊥
-IsCopying (MirrorOf origin) entry = IsMirroring entry
-IsCopying (Sources origins) entry = ⊥
+abbrev pub IsCopying : Copies → List Entry → Entry → Type 0
+IsCopying Nothing log entry = ⊥
+IsCopying (MirrorOf origin) log entry = IsMirroring log entry
+IsCopying (Sources origins) log entry = ⊥
 
-abbrev pub AreCopying : Copies → List Entry → Type 0
-AreCopying copies [] = Unit {0}
-AreCopying copies (entry ∷ entries) = IsCopying copies entry × AreCopying copies entries
+-- entries that copying makes one after another, each of which fits the history before it
+abbrev pub AreCopying : Copies → History → List Entry → Type 0
+AreCopying copies h [] = Unit {0}
+AreCopying copies h (entry ∷ entries) = IsCopying copies h.entries entry × Fits h entry × AreCopying copies (with_entry h entry) entries
 
 -- a log that grew by copying alone
 pub record GrowsByCopying (old new : StreamLog) : Type 0 where
@@ -113,7 +117,7 @@ pub record GrowsByCopying (old new : StreamLog) : Type 0 where
   pub config : new.config ≡ old.config
   pub more : List Entry
   pub entries : new.entries ≡ old.entries ++ more
-  pub copying : AreCopying old.config.copies more
+  pub copying : AreCopying old.config.copies (history_of old) more
 
 -- each log grew by copying alone, and none came or went
 abbrev pub AllGrow : List StreamLog → List StreamLog → Type 0

@@ -1,5 +1,5 @@
 -- How a command may end, and what it has then read and written.
-use Rattle.std.specs.Prelude.{◌≡◌, ◌⊎◌, ℕ, ◌+◌, ◌-◌, ◌^◌, ◌<◌, ◌≤◌, min, List, [], ◌∷◌, ◌++◌, length, Bool, false, ◌||◌, if◌then◌else◌, MatchBool, MatchOption, Option, None, Some, is_some, Err, codes, decimal}
+use Rattle.std.specs.Prelude.{◌≡◌, ◌⊎◌, ℕ, ◌+◌, ◌-◌, ◌^◌, ◌<◌, ◌≤◌, min, List, [], ◌∷◌, ◌++◌, length, Bool, false, ◌||◌, if◌then◌else◌, MatchBool, MatchOption, Option, None, Some, is_some, codes, decimal}
 use Rattle.std.specs.Str.{bytes_eq}
 use Rattle.std.specs.Io.KnownBytes.{Appends, Keeps, Consumes, IsAtEnd}
 use Rattle.leaf_edges.specs.Causes.{Rose, AppendsPrefix}
@@ -7,10 +7,7 @@ use Rattle.leafd_script.specs.declared.fault.ScriptKind.{ScriptKind}
 use Rattle.leafd_script.specs.Kinds.{kind_word}
 use Rattle.leafd_cli.specs.declared.status.Status.{Status}
 use Rattle.leafd_cli.specs.declared.status.Status.TheVariants.{Done, ScriptFault, Usage, ReadFault, WriteFault, DiskFault, NoMemory, ScriptTooLong, BadJournal, JournalTooLong}
-use Rattle.leafd_cli.specs.Logs.{Logs, no_logs}
-use Rattle.leafd_cli.specs.Rows.{Row, rows_of}
-use Rattle.leafd_cli.specs.Legal.{judged}
-use Rattle.leafd_cli.specs.Book.{BookOk, last_logs}
+use Rattle.leafd_cli.specs.Reporting.{Prints}
 
 -- the number that the process ends with
 abbrev pub status_number : Status → ℕ
@@ -66,111 +63,50 @@ pub record IsRead (old new : Option (List ℕ)) (text : List ℕ) : Type 0 where
   pub short : length text ≤ 16777216
 
 -- a source that tells what it has left has more than the most bytes of a script
-abbrev pub IsTooLong : Option (List ℕ) → Type 0
-IsTooLong None = Unit {0}
-IsTooLong (Some left) = 16777216 < length left
+abbrev pub IsTooLongScript : Option (List ℕ) → Type 0
+IsTooLongScript None = Unit {0}
+IsTooLongScript (Some left) = 16777216 < length left
 
--- the whole report of a book for all lines of the input, read to its end
-pub record Reports (left rest before after : Option (List ℕ)) : Type 0 where
-  pub text : List ℕ
-  pub input : IsRead left rest text
-  pub report : List ℕ
-  pub book : List Logs
-  pub right : BookOk (rows_of text) report book
-  pub written : Appends before after report
-
--- the report of a book for the lines before the first that isn't legal in its place
-pub record ReportsBefore (line : ℕ) (kind : ScriptKind) (left rest before after : Option (List ℕ)) : Type 0 where
-  pub text : List ℕ
-  pub input : IsRead left rest text
-  pub done : List Row
-  pub row : Row
-  pub more : List Row
-  pub rows : rows_of text ≡ done ++ row ∷ more
-  pub number : line ≡ length done + 1
-  pub report : List ℕ
-  pub book : List Logs
-  pub right : BookOk done report book
-  pub refused : judged (last_logs no_logs book) row ≡ Err kind
-  pub written : Appends before after report
-
--- a prefix of the report of a book for a prefix of the lines
-pub record ReportsInPart (left rest before after : Option (List ℕ)) : Type 0 where
-  pub text : List ℕ
-  pub input : IsRead left rest text
-  pub done : List Row
-  pub more : List Row
-  pub rows : rows_of text ≡ done ++ more
-  pub report : List ℕ
-  pub book : List Logs
-  pub right : BookOk done report book
-  pub written : AppendsPrefix before after report
+-- a script was read to its end, and this is printed of it
+abbrev pub HasRun : Option (List ℕ) → Option (List ℕ) → Option (List ℕ) → Option (List ℕ) → Status → Type 0
+HasRun left rest before after status = (text : List ℕ) × IsRead left rest text × Prints text before after status
 
 -- what a drill has read and written, by its status
 abbrev pub Drills : Option (List ℕ) → Option (List ℕ) → Option (List ℕ) → Option (List ℕ) → Status → Type 0
-Drills left rest before after Done = Reports left rest before after
-Drills left rest before after (ScriptFault line kind) = ReportsBefore line kind left rest before after
+Drills left rest before after Done = HasRun left rest before after Done
+Drills left rest before after (ScriptFault line kind) = HasRun left rest before after (ScriptFault line kind)
 Drills left rest before after Usage = ⊥
 Drills left rest before after ReadFault = Keeps before after
-Drills left rest before after WriteFault = ReportsInPart left rest before after
-Drills left rest before after NoMemory = Keeps before after ⊎ ReportsInPart left rest before after
+Drills left rest before after WriteFault = HasRun left rest before after WriteFault
+Drills left rest before after NoMemory = Keeps before after ⊎ HasRun left rest before after NoMemory
 Drills left rest before after DiskFault = ⊥
-Drills left rest before after ScriptTooLong = IsTooLong left × Keeps before after
+Drills left rest before after ScriptTooLong = IsTooLongScript left × Keeps before after
 Drills left rest before after (BadJournal name place) = ⊥
 Drills left rest before after (JournalTooLong name len) = ⊥
 
 -- what was told of a status: nothing where all is done, else a prefix of its line
 abbrev pub Tells : Option (List ℕ) → Option (List ℕ) → Status → Type 0
 Tells before after Done = Keeps before after
-Tells before after (ScriptFault line kind) = AppendsPrefix before after (status_line (ScriptFault line kind))
-Tells before after Usage = AppendsPrefix before after (status_line Usage)
-Tells before after ReadFault = AppendsPrefix before after (status_line ReadFault)
-Tells before after WriteFault = AppendsPrefix before after (status_line WriteFault)
-Tells before after NoMemory = AppendsPrefix before after (status_line NoMemory)
-Tells before after DiskFault = AppendsPrefix before after (status_line DiskFault)
-Tells before after ScriptTooLong = AppendsPrefix before after (status_line ScriptTooLong)
-Tells before after (BadJournal name place) = AppendsPrefix before after (status_line (BadJournal name place))
-Tells before after (JournalTooLong name len) = AppendsPrefix before after (status_line (JournalTooLong name len))
+Tells before after status = AppendsPrefix before after (status_line status)
 
 -- ReadFault comes only where the count of faults of what is read rose, and at every other status it didn't
 abbrev pub CountsRead : ℕ → ℕ → Status → Type 0
 CountsRead before now ReadFault = Rose before now
-CountsRead before now Done = now ≡ before
-CountsRead before now (ScriptFault line kind) = now ≡ before
-CountsRead before now Usage = now ≡ before
-CountsRead before now WriteFault = now ≡ before
-CountsRead before now NoMemory = now ≡ before
-CountsRead before now DiskFault = now ≡ before
-CountsRead before now ScriptTooLong = now ≡ before
-CountsRead before now (BadJournal name place) = now ≡ before
-CountsRead before now (JournalTooLong name len) = now ≡ before
+CountsRead before now _ = now ≡ before
 
 -- WriteFault comes only where the count of faults of the output rose, and at every other status it didn't
 abbrev pub CountsWrite : ℕ → ℕ → Status → Type 0
 CountsWrite before now WriteFault = Rose before now
-CountsWrite before now Done = now ≡ before
-CountsWrite before now (ScriptFault line kind) = now ≡ before
-CountsWrite before now Usage = now ≡ before
-CountsWrite before now ReadFault = now ≡ before
-CountsWrite before now NoMemory = now ≡ before
-CountsWrite before now DiskFault = now ≡ before
-CountsWrite before now ScriptTooLong = now ≡ before
-CountsWrite before now (BadJournal name place) = now ≡ before
-CountsWrite before now (JournalTooLong name len) = now ≡ before
+CountsWrite before now _ = now ≡ before
 
--- DiskFault comes only where the files' count of disk faults went up by one, up to its type's end, and at every other
--- status it didn't
+-- a count went up by one, up to its type's end
+abbrev pub GoesUp : ℕ → ℕ → Type 0
+GoesUp before now = now ≡ min (before + 1) (2 ^ 64 - 1)
+
+-- DiskFault comes only where the files' count of disk faults went up, and at every other status it didn't
 abbrev pub CountsDisks : ℕ → ℕ → Status → Type 0
-CountsDisks before now DiskFault = now ≡ min (before + 1) (2 ^ 64 - 1)
-CountsDisks before now Done = now ≡ before
-CountsDisks before now (ScriptFault line kind) = now ≡ before
-CountsDisks before now Usage = now ≡ before
-CountsDisks before now ReadFault = now ≡ before
-CountsDisks before now WriteFault = now ≡ before
-CountsDisks before now NoMemory = now ≡ before
-CountsDisks before now ScriptTooLong = now ≡ before
-CountsDisks before now (BadJournal name place) = now ≡ before
-CountsDisks before now (JournalTooLong name len) = now ≡ before
+CountsDisks before now DiskFault = GoesUp before now
+CountsDisks before now _ = now ≡ before
 
 -- how the reading of a source ended: at its end, or past the most bytes of a script
 abbrev pub Gathers : Option (List ℕ) → Option (List ℕ) → List ℕ → Type 0

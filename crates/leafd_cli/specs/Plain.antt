@@ -14,7 +14,7 @@ use Rattle.stream_fold.specs.Copying.{bound}
 use Rattle.leafd_script.specs.declared.line.Line.{Line}
 use Rattle.leafd_script.specs.declared.line.Line.TheVariants.{Settle}
 use Rattle.leafd_cli.specs.Logs.{StreamLog, Logs, no_logs, history_of}
-use Rattle.leafd_cli.specs.Legal.{origin_of}
+use Rattle.leafd_cli.specs.Legal.{origin_among}
 use Rattle.leafd_cli.specs.Operations.{nodes_after, clock_after, quiet_after, operated, new_stream}
 
 -- the entry of a copied message
@@ -37,7 +37,7 @@ missing_of (Some origin) copy = Some (rows_past (last copy.entries) (kept (histo
 
 abbrev pub missing_kind : List StreamLog → StreamLog → Copies → Option (List Numbered)
 missing_kind streams s Nothing = None
-missing_kind streams s (MirrorOf want) = missing_of (origin_of want streams) s
+missing_kind streams s (MirrorOf want) = missing_of (origin_among want streams) s
 missing_kind streams s (Sources wants) = None
 
 abbrev pub missing : List StreamLog → StreamLog → Option (List Numbered)

@@ -79,18 +79,18 @@ abbrev pub show_text : Option StreamLog → List ℕ
 show_text None = []
 show_text (Some s) = head_text s ++ flat_map row_text (kept (history_of s))
 
-abbrev pub mark_text : Option Mark → List ℕ
-mark_text None = []
-mark_text (Some mark) = counted (counted (codes " mark") mark.index) mark.seq
+abbrev pub logged_mark : Option Mark → List ℕ
+logged_mark None = []
+logged_mark (Some mark) = counted (counted (codes " mark") mark.index) mark.seq
 
 -- an entry of a log
-abbrev pub entry_text : Entry → List ℕ
-entry_text (Put seq message mark) = codes "put " ++ (message_text seq message ++ (mark_text mark ++ 10 ∷ pairs_text message))
-entry_text (Del seq) = counted (codes "del") seq ++ 10 ∷ []
-entry_text (Purge pattern below) = codes "purge " ++ (counted pattern below ++ 10 ∷ [])
-entry_text (Expire now) = counted (codes "expire") now ++ 10 ∷ []
-entry_text (Bind index incarnation start) = counted (counted (counted (codes "bind") index) incarnation) start ++ 10 ∷ []
-entry_text (Limits config) = codes "limits" ++ 10 ∷ []
+abbrev pub logged_entry : Entry → List ℕ
+logged_entry (Put seq message mark) = codes "put " ++ (message_text seq message ++ (logged_mark mark ++ 10 ∷ pairs_text message))
+logged_entry (Del seq) = counted (codes "del") seq ++ 10 ∷ []
+logged_entry (Purge pattern below) = codes "purge " ++ (counted pattern below ++ 10 ∷ [])
+logged_entry (Expire now) = counted (codes "expire") now ++ 10 ∷ []
+logged_entry (Bind index incarnation start) = counted (counted (counted (codes "bind") index) incarnation) start ++ 10 ∷ []
+logged_entry (Limits config) = codes "limits" ++ 10 ∷ []
 
 -- a log's node and name, and how many entries it has
 abbrev pub log_title : StreamLog → List ℕ
@@ -99,7 +99,7 @@ log_title s = codes "log " ++ (s.node ++ 32 ∷ (counted s.config.name (length s
 -- what `log` prints: the title, and each entry
 abbrev pub log_text : Option StreamLog → List ℕ
 log_text None = []
-log_text (Some s) = log_title s ++ flat_map entry_text s.entries
+log_text (Some s) = log_title s ++ flat_map logged_entry s.entries
 
 -- the streams of a node, in the order in which they were made
 abbrev pub streams_on : List StreamLog → List ℕ → List StreamLog

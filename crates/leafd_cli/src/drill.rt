@@ -2,12 +2,12 @@ ghost use Rattle.std.specs.Prelude.{◌≡◌, ◌≤◌, ◌<◌, ◌-◌, ◌^
 ghost use Rattle.leaf_edges.specs.Causes.{Causes};
 ghost use Rattle.leafd_script.specs.Words.{Gives};
 ghost use Rattle.leafd_script.specs.Lines.{IfLine};
-ghost use Rattle.leafd_cli.specs.Rows.{text_of, ends_in_return};
-ghost use Rattle.leafd_cli.specs.Legal.{judged};
-ghost use Rattle.leafd_cli.specs.Book.{row_text};
+ghost use Rattle.leafd_cli.specs.ScriptLines.{line_text, ends_in_return};
+ghost use Rattle.leafd_cli.specs.Legal.{judged, fault_of, line_or};
+ghost use Rattle.leafd_cli.specs.Book.{said_text};
 ghost use Rattle.leafd_cli.specs.Plain.{start, step_on};
-ghost use Rattle.leafd_cli.specs.Keeping.{IsKept, IsWellMade};
-ghost use Rattle.leafd_cli.specs.Turns.{IsTurn, IsRan, IsLegal, IsLegalOn, IsWellMadeOn};
+ghost use Rattle.leafd_cli.specs.Keeping.{AreSound, IsWellMade};
+ghost use Rattle.leafd_cli.specs.Turns.{IsTurn, IsRan, IsLegalIfOk, IsLegalOn, IsWellMadeOn};
 
 use crate::world::World;
 use leaf_edges::{EdgeError, Sink, pump_all};
@@ -17,7 +17,7 @@ use std::alloc::Global;
 use std::marker::Model;
 
 /// Where a script stopped: the number of a line that isn't legal in its place, and why.
-#[derive(Clone, Copy, Debug, PartialEq, Eq)]
+#[derive(Clone, Copy)]
 pub struct Stop {
     pub line: u64,
     pub kind: ScriptKind,
@@ -64,7 +64,7 @@ impl Drill {
         ended: bool,
     ) -> Result<Option<ScriptKind>, EdgeError>
         requires number { self.old.number < 2 ^ 63 }
-        requires kept { IsKept self.old.logs.streams }
+        requires kept { AreSound self.old.logs.streams }
         ensures turn { IsTurn self.old (record { bytes = line.now; ended = ended }) self.new (O.taken out.old) (O.taken out.new) result }
         ensures cause { Causes (O.faults out.old) (O.faults out.new) result }
     {
@@ -88,14 +88,31 @@ impl Drill {
     fn judged(&self, line: &[u8], ended: bool) -> Result<Option<Line>, LineFault>
         ensures said { Gives result (judged self.now.logs (record { bytes = line.now; ended = ended })) }
         ensures made { IfLine result IsWellMade }
-        ensures legal { IsLegal self.now.logs result }
+        ensures legal { IsLegalIfOk self.now.logs result }
     {
-        let Some(line) = read_line(self.alloc, text_of(line, ended))? else {
-            return Ok(None);
-        };
-        match self.world.fault_of(self.alloc, &line)? {
-            None => Ok(Some(line)),
-            Some(kind) => Err(LineFault::Bad { kind }),
+        match read_line(self.alloc, line_text(line, ended))? {
+            Some(line) => self.if_legal(line),
+            None => Ok(None),
+        }
+    }
+
+    /// A line that is legal in its place, or why it isn't.
+    fn if_legal(&self, line: Line) -> Result<Option<Line>, LineFault>
+        requires { IsWellMade line }
+        ensures said { Gives result (line_or line (fault_of self.now.logs line)) }
+        ensures made { IfLine result IsWellMade }
+        ensures legal { IsLegalIfOk self.now.logs result }
+    {
+        match self.world.fault_of(self.alloc, &line) {
+            Ok(None) => Ok(Some(line)),
+            Ok(Some(kind)) => {
+                drop(line);
+                Err(LineFault::Bad { kind })
+            }
+            Err(NoMemory) => {
+                drop(line);
+                Err(LineFault::NoMemory)
+            }
         }
     }
 
@@ -103,10 +120,10 @@ impl Drill {
     fn step(&mut self, said: Option<Line>) -> Result<Vec<u8>, NoMemory>
         requires legal { IsLegalOn self.old.logs said }
         requires made { IsWellMadeOn said }
-        requires kept { IsKept self.old.logs.streams }
+        requires kept { AreSound self.old.logs.streams }
         ensures number { self.new.number ≡ self.old.number }
         ensures logs { OnOk result (self.new.logs ≡ step_on self.old.logs said) }
-        ensures text { IfOk result (λ text. text.items ≡ row_text self.old.number self.old.logs said) }
+        ensures text { IfOk result (λ text. text.items ≡ said_text self.old.number self.old.logs said) }
     {
         match said {
             None => Ok(Vec::new(self.alloc)),
@@ -116,8 +133,8 @@ impl Drill {
 }
 
 /// A line without one carriage return before its line feed.
-fn text_of(line: &[u8], ended: bool) -> &[u8]
-    ensures { result.now ≡ text_of (record { bytes = line.now; ended = ended }) }
+fn line_text(line: &[u8], ended: bool) -> &[u8]
+    ensures { result.now ≡ line_text (record { bytes = line.now; ended = ended }) }
 {
     if ended && ends_in_return(line) {
         &line[..line.len() - 1]

@@ -1,4 +1,4 @@
-ghost use Rattle.std.specs.Prelude.{◌≡◌, ◌+◌, ◌<◌, ◌^◌, ◌==◌, IfOk, count_by, nat_le, codes, Ok, Err};
+ghost use Rattle.std.specs.Prelude.{◌≡◌, ◌+◌, ◌<◌, ◌^◌, ◌==◌, IfOk, unwrap_or, count_by, nat_le, codes, Ok, Err};
 ghost use Rattle.stream_fold.specs.Histories.{last, is_purged, is_expired, kept};
 ghost use Rattle.stream_fold.specs.Publishing.{verdict, GivesVerdict};
 ghost use Rattle.leafd_cli.specs.Logs.{history_of, limits_of};
@@ -47,19 +47,26 @@ pub fn effect(
 fn answers(alloc: Global, text: &[u8]) -> Result<Effect, NoMemory>
     ensures { IfOk result (λ e. e ≡ answers text.now) }
 {
+    let answer = Bytes::from_slice(alloc, text)?;
     Ok(Effect {
         entry: None,
-        answer: Bytes::from_slice(alloc, text)?,
+        answer,
     })
 }
 
 fn makes(alloc: Global, entry: Entry, text: &[u8]) -> Result<Effect, NoMemory>
     ensures { IfOk result (λ e. e ≡ makes entry text.now) }
 {
-    Ok(Effect {
-        entry: Some(entry),
-        answer: Bytes::from_slice(alloc, text)?,
-    })
+    match Bytes::from_slice(alloc, text) {
+        Ok(answer) => Ok(Effect {
+            entry: Some(entry),
+            answer,
+        }),
+        Err(NoMemory) => {
+            drop(entry);
+            Err(NoMemory)
+        }
+    }
 }
 
 fn message_of(now: u64, subject: Subject, headers: Headers, text: Bytes, stream: &Stream) -> Message
@@ -81,16 +88,42 @@ fn publish_effect(
 ) -> Result<Effect, NoMemory>
     ensures { IfOk result (λ e. e ≡ publish_effect now message stream.now) }
 {
-    if !stream.takes(&message.subject) {
-        return answers(alloc, b"refused NoStream");
+    match not_stored(alloc, now, &message, stream) {
+        Ok(None) => stored(alloc, message, stream),
+        Ok(Some(effect)) => {
+            drop(message);
+            Ok(effect)
+        }
+        Err(NoMemory) => {
+            drop(message);
+            Err(NoMemory)
+        }
     }
-    match stream.check(alloc, &message, now) {
-        Ok(Verdict::Fresh) => stored(alloc, message, stream),
-        Ok(Verdict::Duplicate { seq }) => Ok(Effect {
-            entry: None,
-            answer: counted(alloc, b"duplicate", seq)?,
-        }),
-        Err(refusal) => refused(alloc, &refusal),
+}
+
+/// What becomes of a publish that stores nothing, `None` where the message is stored.
+fn not_stored(
+    alloc: Global,
+    now: u64,
+    message: &Message,
+    stream: &Stream,
+) -> Result<Option<Effect>, NoMemory>
+    ensures { IfOk result (λ found. publish_effect now message.now stream.now ≡ unwrap_or found (stored message.now stream.now)) }
+{
+    if !stream.takes(&message.subject) {
+        let effect = answers(alloc, b"refused NoStream")?;
+        return Ok(Some(effect));
+    }
+    match stream.check(alloc, message, now) {
+        Ok(Verdict::Fresh) => Ok(None),
+        Ok(Verdict::Duplicate { seq }) => {
+            let effect = repeated(alloc, seq)?;
+            Ok(Some(effect))
+        }
+        Err(refusal) => {
+            let effect = refused(alloc, &refusal)?;
+            Ok(Some(effect))
+        }
     }
 }
 
@@ -98,38 +131,59 @@ fn stored(alloc: Global, message: Message, stream: &Stream) -> Result<Effect, No
     ensures { IfOk result (λ e. e ≡ stored message stream.now) }
 {
     let seq = stream.last() + 1;
-    let answer = counted(alloc, b"stored", seq)?;
-    let entry = Entry::Put {
-        seq,
-        message,
-        mark: None,
-    };
-    Ok(Effect {
-        entry: Some(entry),
-        answer,
-    })
+    match counted(alloc, b"stored", seq) {
+        Ok(answer) => Ok(Effect {
+            entry: Some(Entry::Put {
+                seq,
+                message,
+                mark: None,
+            }),
+            answer,
+        }),
+        Err(NoMemory) => {
+            drop(message);
+            Err(NoMemory)
+        }
+    }
 }
 
-/// The answer of a refusal: its name, and its first number where it has one. Want of memory has none.
-fn refused(alloc: Global, refusal: &Refusal) -> Result<Effect, NoMemory>
-    ensures text { IfOk result (λ e. e ≡ answers (refusal_text refusal.now)) }
-    ensures memory { IfOk result (λ e. refusal.now ≡ Refusal.NoMemory → ⊥) }
+fn repeated(alloc: Global, seq: u64) -> Result<Effect, NoMemory>
+    ensures { IfOk result (λ e. e ≡ answers (counted (codes "duplicate") seq)) }
 {
-    let answer = match refusal {
-        Refusal::IsMirror => Bytes::from_slice(alloc, b"refused IsMirror")?,
-        Refusal::BadHeader { .. } => Bytes::from_slice(alloc, b"refused BadHeader")?,
-        Refusal::WrongStream => Bytes::from_slice(alloc, b"refused WrongStream")?,
-        Refusal::WrongLast { kept } => counted(alloc, b"refused WrongLast", *kept)?,
-        Refusal::WrongSubjectLast { kept } => counted(alloc, b"refused WrongSubjectLast", *kept)?,
-        Refusal::TooLarge { size, .. } => counted(alloc, b"refused TooLarge", *size)?,
-        Refusal::SeqEnd => Bytes::from_slice(alloc, b"refused SeqEnd")?,
-        Refusal::Full { count, .. } => counted(alloc, b"refused Full", *count)?,
-        Refusal::NoMemory => return Err(NoMemory),
-    };
+    let answer = counted(alloc, b"duplicate", seq)?;
     Ok(Effect {
         entry: None,
         answer,
     })
+}
+
+fn refused(alloc: Global, refusal: &Refusal) -> Result<Effect, NoMemory>
+    ensures text { IfOk result (λ e. e ≡ answers (refusal_text refusal.now)) }
+    ensures memory { IfOk result (λ e. refusal.now ≡ Refusal.NoMemory → ⊥) }
+{
+    let answer = refusal_text(alloc, refusal)?;
+    Ok(Effect {
+        entry: None,
+        answer,
+    })
+}
+
+/// The name of a refusal, and its first number where it has one. Want of memory has none.
+fn refusal_text(alloc: Global, refusal: &Refusal) -> Result<Bytes, NoMemory>
+    ensures text { IfOk result (λ text. text ≡ refusal_text refusal.now) }
+    ensures memory { IfOk result (λ text. refusal.now ≡ Refusal.NoMemory → ⊥) }
+{
+    match refusal {
+        Refusal::IsMirror => Bytes::from_slice(alloc, b"refused IsMirror"),
+        Refusal::BadHeader { .. } => Bytes::from_slice(alloc, b"refused BadHeader"),
+        Refusal::WrongStream => Bytes::from_slice(alloc, b"refused WrongStream"),
+        Refusal::WrongLast { kept } => counted(alloc, b"refused WrongLast", *kept),
+        Refusal::WrongSubjectLast { kept } => counted(alloc, b"refused WrongSubjectLast", *kept),
+        Refusal::TooLarge { size, .. } => counted(alloc, b"refused TooLarge", *size),
+        Refusal::SeqEnd => Bytes::from_slice(alloc, b"refused SeqEnd"),
+        Refusal::Full { count, .. } => counted(alloc, b"refused Full", *count),
+        Refusal::NoMemory => Err(NoMemory),
+    }
 }
 
 fn delete_effect(alloc: Global, seq: u64, stream: &Stream) -> Result<Effect, NoMemory>
@@ -199,9 +253,24 @@ fn expire_effect(alloc: Global, now: u64, stream: &Stream) -> Result<Effect, NoM
 fn taking(alloc: Global, count: u64, entry: Entry, word: &[u8]) -> Result<Effect, NoMemory>
     ensures { IfOk result (λ e. e ≡ taking count entry (counted word.now count)) }
 {
-    let answer = counted(alloc, word, count)?;
-    let entry = if count == 0 { None } else { Some(entry) };
-    Ok(Effect { entry, answer })
+    let answer = match counted(alloc, word, count) {
+        Ok(answer) => answer,
+        Err(NoMemory) => {
+            drop(entry);
+            return Err(NoMemory);
+        }
+    };
+    if count == 0 {
+        drop(entry);
+        return Ok(Effect {
+            entry: None,
+            answer,
+        });
+    }
+    Ok(Effect {
+        entry: Some(entry),
+        answer,
+    })
 }
 
 fn purged_count(rows: &[Numbered], pattern: &Pattern, below: u64) -> usize
@@ -246,23 +315,14 @@ fn is_older(moment: u64, age: u64, now: u64) -> bool
 pub fn with_changes(changes: &Changes, config: &Config) -> Result<Config, NoMemory>
     ensures { IfOk result (λ c. c ≡ with_changes changes.now config.now) }
 {
-    let name = config.name.clone()?;
-    let subjects = config.subjects.clone()?;
-    let transform = config.transform.clone()?;
-    let copies = config.copies.clone()?;
-    Ok(Config {
-        name,
-        subjects,
-        max_msgs: changed_to(config.max_msgs, changes.max_msgs),
-        max_bytes: changed_to(config.max_bytes, changes.max_bytes),
-        max_age: changed_to(config.max_age, changes.max_age),
-        max_per_subject: changed_to(config.max_per_subject, changes.max_per_subject),
-        max_msg_size: changed_to(config.max_msg_size, changes.max_msg_size),
-        discard: discard_changed_to(config.discard, changes.discard),
-        window: config.window,
-        transform,
-        copies,
-    })
+    let mut changed = config.clone()?;
+    changed.max_msgs = changed_to(config.max_msgs, changes.max_msgs);
+    changed.max_bytes = changed_to(config.max_bytes, changes.max_bytes);
+    changed.max_age = changed_to(config.max_age, changes.max_age);
+    changed.max_per_subject = changed_to(config.max_per_subject, changes.max_per_subject);
+    changed.max_msg_size = changed_to(config.max_msg_size, changes.max_msg_size);
+    changed.discard = discard_changed_to(config.discard, changes.discard);
+    Ok(changed)
 }
 
 fn changed_to(old: u64, new: Option<u64>) -> u64

@@ -2,7 +2,7 @@ ghost use Rattle.std.specs.Prelude.{◌≡◌, MatchOption};
 ghost use Rattle.std.specs.List.{position_from};
 ghost use Rattle.std.specs.Option.{option_copied};
 ghost use Rattle.leafd_cli.specs.Logs.{is_at, stream_at, has_node};
-ghost use Rattle.leafd_cli.specs.Legal.{origin_of};
+ghost use Rattle.leafd_cli.specs.Legal.{origin_among};
 
 use crate::stream::{Stream, is_same};
 use nats_text::{Name, Origin};
@@ -34,8 +34,8 @@ pub fn position_of(streams: &[Stream], node: &Name, name: &Name) -> Option<usize
 }
 
 /// The stream that an origin names.
-pub fn origin_of<'a>(streams: &'a [Stream], want: &Origin) -> Option<&'a Stream>
-    ensures { option_copied result ≡ origin_of want.now streams.now }
+pub fn origin_among<'a>(streams: &'a [Stream], want: &Origin) -> Option<&'a Stream>
+    ensures { option_copied result ≡ origin_among want.now streams.now }
 {
     match &want.node {
         None => None,

@@ -4,7 +4,7 @@ ghost use Rattle.std.specs.List.{flat_map};
 ghost use Rattle.shard_store.specs.declared.fault.Part.TheVariants.{Spare as Second};
 ghost use Rattle.leafd_cli.specs.Folders.{contents, KeepsFiles, file_name, path, part_text};
 ghost use Rattle.leafd_cli.specs.Inspecting.{stream_text, shard_text, Inspects};
-ghost use Rattle.leafd_cli.specs.Inspections.{Reports, Pushes, Reads, ReadsOf, HasRead, HasReadAll, TurnsInto, Writes, status_of};
+ghost use Rattle.leafd_cli.specs.Inspections.{Reports, Pushes, ReadsDisks, ReadsShard, HasRead, HasReadAll, TurnsInto, Writes, fault_status};
 ghost use Rattle.leafd_cli.specs.Outcome.{CountsRead, CountsWrite, CountsDisks};
 ghost use Rattle.leafd_cli.specs.declared.inspect.InspectFault.TheVariants.{NoMemory as WithoutMemory};
 
@@ -61,13 +61,14 @@ pub fn inspect<O: Sink, F: Files>(alloc: Global, dir: &[u8], files: &mut F, out:
     requires in_place { F.tells → (name : Items ℕ) → F.is_out files.old name ≡ false }
     ensures report { Inspects F.tells (contents F.place F.D.seen files.old) dir.now (O.taken out.old) (O.taken out.new) result }
     ensures kept { F.tells → KeepsFiles F.place F.is_out F.D.seen files.old files.new }
+    ensures leads { F.leads files.old files.new }
     ensures read { CountsRead (F.faults files.old) (F.faults files.new) result }
     ensures disk { CountsDisks (F.disk_faults files.old) (F.disk_faults files.new) result }
     ensures write { CountsWrite (O.faults out.old) (O.faults out.new) result }
 {
     match report_of(alloc, dir, files) {
         Ok(report) => write_report(out, &report),
-        Err(fault) => status_of(fault),
+        Err(fault) => fault_status(fault),
     }
 }
 
@@ -82,8 +83,8 @@ fn write_report<O: Sink>(out: &mut O, report: &[u8]) -> Status
     }
 }
 
-fn status_of(fault: InspectFault) -> Status
-    ensures { result ≡ status_of fault }
+fn fault_status(fault: InspectFault) -> Status
+    ensures { result ≡ fault_status fault }
 {
     match fault {
         InspectFault::Read => Status::ReadFault,
@@ -99,6 +100,7 @@ fn report_of<F: Files>(alloc: Global, dir: &[u8], files: &mut F) -> Result<Vec<u
     requires in_place { F.tells → (name : Items ℕ) → F.is_out files.old name ≡ false }
     ensures report { Reports F.tells (contents F.place F.D.seen files.old) dir.now result }
     ensures kept { F.tells → KeepsFiles F.place F.is_out F.D.seen files.old files.new }
+    ensures leads { F.leads files.old files.new }
     ensures cause { HasReadAll (F.faults files.old) (F.faults files.new) (F.disk_faults files.old) (F.disk_faults files.new) result }
 {
     let mut report = Vec::new(alloc);
@@ -119,6 +121,7 @@ fn push_shard<F: Files>(
     requires in_place { F.tells → (name : Items ℕ) → F.is_out files.old name ≡ false }
     ensures text { Pushes F.tells (contents F.place F.D.seen files.old) dir.now shard report.old.items report.new.items result }
     ensures kept { F.tells → KeepsFiles F.place F.is_out F.D.seen files.old files.new }
+    ensures leads { F.leads files.old files.new }
     ensures cause { HasReadAll (F.faults files.old) (F.faults files.new) (F.disk_faults files.old) (F.disk_faults files.new) result }
 {
     match read_store(alloc, dir, shard, files)? {
@@ -138,8 +141,9 @@ fn read_store<F: Files>(
     files: &mut F,
 ) -> Result<Option<(u64, List<(Facts, List<Numbered>)>)>, InspectFault>
     requires in_place { F.tells → (name : Items ℕ) → F.is_out files.old name ≡ false }
-    ensures answer { F.tells → ReadsOf (contents F.place F.D.seen files.old) dir.now shard result }
+    ensures answer { F.tells → ReadsShard (contents F.place F.D.seen files.old) dir.now shard result }
     ensures kept { F.tells → KeepsFiles F.place F.is_out F.D.seen files.old files.new }
+    ensures leads { F.leads files.old files.new }
     ensures cause { HasReadAll (F.faults files.old) (F.faults files.new) (F.disk_faults files.old) (F.disk_faults files.new) result }
 {
     let name = path(alloc, dir, shard, Part::Main)?;
@@ -164,9 +168,11 @@ fn read_shard<F: Files>(
 ) -> Result<(u64, List<(Facts, List<Numbered>)>), InspectFault>
     requires in_place { F.tells → F.is_out files.old (path dir.now shard Second) ≡ false }
     requires fresh { F.D.faults disk.old ≡ 0 }
-    ensures answer { F.tells → Reads shard (F.D.seen disk.old) (contents F.place F.D.seen files.old (path dir.now shard Second)) result }
+    ensures answer { F.tells → ReadsDisks shard (F.D.seen disk.old) (contents F.place F.D.seen files.old (path dir.now shard Second)) result }
     ensures same { F.tells → F.D.seen disk.new ≡ F.D.seen disk.old }
+    ensures disk_leads { F.D.leads disk.old disk.new }
     ensures kept { F.tells → KeepsFiles F.place F.is_out F.D.seen files.old files.new }
+    ensures leads { F.leads files.old files.new }
     ensures cause { HasRead (F.D.faults disk.new) (F.faults files.old) (F.faults files.new) (F.disk_faults files.old) (F.disk_faults files.new) result }
 {
     let name = path(alloc, dir, shard, Part::Spare)?;
@@ -182,6 +188,7 @@ fn read_shard<F: Files>(
 /// Puts a disk back, if there is one.
 fn put_back<F: Files>(files: &mut F, name: &[u8], disk: Option<F::D>)
     requires out { F.tells → OnSome disk (F.is_out files.old name.now ≡ true) }
+    ensures leads { F.leads files.old files.new }
     ensures goes { F.tells → MatchOption disk (files.new ≡ files.old) (λ d. GoesBack F.place F.is_out F.handed F.text_of name.now d files.old files.new) }
     ensures faults { F.faults files.new ≡ F.faults files.old }
     ensures disk_faults { MatchOption disk (F.disk_faults files.new ≡ F.disk_faults files.old) (λ d. CountsDisk (F.D.faults d) (F.disk_faults files.old) (F.disk_faults files.new)) }

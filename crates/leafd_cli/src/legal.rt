@@ -6,10 +6,10 @@ ghost use Rattle.nats_text.specs.Matching.{overlap};
 ghost use Rattle.stream_fold.specs.Checking.{config_fault};
 ghost use Rattle.stream_fold.specs.Histories.{either};
 ghost use Rattle.leafd_cli.specs.Logs.{stream_at, has_node};
-ghost use Rattle.leafd_cli.specs.Legal.{fault_if, fault_in, making_fault, place_fault, publish_fault, is_too_large, is_wrong_change, with_changes, is_one_too_many, is_overlapping, overlaps_stream, is_copied_out, lacks_node, origin_of, subject_count, copy_count, IsCapped, origins_of, is_from, is_node, is_in_shard, shard_of};
+ghost use Rattle.leafd_cli.specs.Legal.{fault_if, fault_in, making_fault, place_fault, publish_fault, is_too_large, is_wrong_change, with_changes, is_one_too_many, is_overlapping, overlaps_stream, is_copied_out, lacks_node, origin_among, subject_count, copy_count, IsCapped, origins_of, is_from, is_node, is_in_shard, shard_of};
 
 use crate::effects::with_changes;
-use crate::finding::{has_node, origin_of, stream_at};
+use crate::finding::{has_node, origin_among, stream_at};
 use crate::shard::shard_of;
 use crate::stream::{Stream, is_same};
 use leafd_script::{Changes, Line, ScriptKind};
@@ -222,11 +222,11 @@ fn lacks_node(nodes: &[Name], node: &Option<Name>) -> bool
 }
 
 fn any_is_absent(streams: &[Stream], origins: &[Origin]) -> bool
-    ensures { result ≡ list_any (λ origin. is_none (origin_of origin streams.now)) origins.now }
+    ensures { result ≡ list_any (λ origin. is_none (origin_among origin streams.now)) origins.now }
 {
     origins
         .iter()
-        .any(|origin| origin_of(streams, origin).is_none())
+        .any(|origin| origin_among(streams, origin).is_none())
 }
 
 fn is_overlapping(streams: &[Stream], node: &Name, subjects: &[Pattern]) -> bool

@@ -3,7 +3,7 @@ use nats_text::{Bytes, Headers, Pattern, Subject};
 use stream_fold::Entry;
 
 /// What a line does to one stream.
-#[derive(Debug, Drop)]
+#[derive(Drop)]
 pub enum Operation {
     Publish {
         subject: Subject,
@@ -24,7 +24,7 @@ pub enum Operation {
 }
 
 /// What became of an operation: its entry, where it makes one, and its answer.
-#[derive(Debug, Drop)]
+#[derive(Drop)]
 pub struct Effect {
     pub entry: Option<Entry>,
     pub answer: Bytes,

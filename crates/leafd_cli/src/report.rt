@@ -2,7 +2,7 @@ ghost use Rattle.std.specs.Prelude.{◌≡◌, ◌++◌, ◌∷◌, [], IfOk, On
 ghost use Rattle.std.specs.List.{flat_map};
 ghost use Rattle.std.specs.Option.{option_copied};
 ghost use Rattle.leafd_cli.specs.Effects.{counted};
-ghost use Rattle.leafd_cli.specs.Report.{log_title, answer, answer_if, row_text, message_text, pair_text, pairs_text, origins_text, front_text, node_text, title_text, numbers_text, counts_text, head_text, show_text, mark_text, entry_text, log_text, streams_on, heads_text};
+ghost use Rattle.leafd_cli.specs.Report.{log_title, answer, answer_if, row_text, message_text, pair_text, pairs_text, origins_text, front_text, node_text, title_text, numbers_text, counts_text, head_text, show_text, logged_mark, logged_entry, log_text, streams_on, heads_text};
 
 use crate::stream::Stream;
 use crate::texts::{push_counted, push_hex, push_number, push_text};
@@ -70,7 +70,7 @@ fn push_log_title(report: &mut Vec<u8>, stream: &Stream) -> Result<(), NoMemory>
 }
 
 fn push_entries(alloc: Global, report: &mut Vec<u8>, entries: &[Entry]) -> Result<(), NoMemory>
-    ensures { OnOk result (report.new.items ≡ report.old.items ++ flat_map entry_text entries.now) }
+    ensures { OnOk result (report.new.items ≡ report.old.items ++ flat_map logged_entry entries.now) }
 {
     for entry in entries {
         push_entry(alloc, report, entry)?;
@@ -79,7 +79,7 @@ fn push_entries(alloc: Global, report: &mut Vec<u8>, entries: &[Entry]) -> Resul
 }
 
 fn push_entry(alloc: Global, report: &mut Vec<u8>, entry: &Entry) -> Result<(), NoMemory>
-    ensures { OnOk result (report.new.items ≡ report.old.items ++ entry_text entry.now) }
+    ensures { OnOk result (report.new.items ≡ report.old.items ++ logged_entry entry.now) }
 {
     match entry {
         Entry::Put { seq, message, mark } => push_put(alloc, report, *seq, message, mark),
@@ -120,7 +120,7 @@ fn push_put(
     message: &Message,
     mark: &Option<Mark>,
 ) -> Result<(), NoMemory>
-    ensures { OnOk result (report.new.items ≡ report.old.items ++ entry_text (Entry.Put seq message.now mark.now)) }
+    ensures { OnOk result (report.new.items ≡ report.old.items ++ logged_entry (Entry.Put seq message.now mark.now)) }
 {
     push_text(report, b"put ")?;
     push_message(alloc, report, seq, message)?;
@@ -130,7 +130,7 @@ fn push_put(
 }
 
 fn push_mark(report: &mut Vec<u8>, mark: &Option<Mark>) -> Result<(), NoMemory>
-    ensures { OnOk result (report.new.items ≡ report.old.items ++ mark_text mark.now) }
+    ensures { OnOk result (report.new.items ≡ report.old.items ++ logged_mark mark.now) }
 {
     match mark {
         None => Ok(()),

@@ -2,12 +2,12 @@ ghost use Rattle.std.specs.Prelude.{◌≡◌, ◌<◌, ◌≤◌, [], ◌∷◌
 ghost use Rattle.std.specs.List.Sorted.{IsNonDecreasingBy};
 ghost use Rattle.stream_fold.specs.declared.entry.Numbered.{Numbered};
 ghost use Rattle.stream_fold.specs.Histories.{last};
-ghost use Rattle.stream_fold.specs.Held.{index_count};
+ghost use Rattle.stream_fold.specs.Fits.{index_count};
 ghost use Rattle.leafd_cli.specs.Logs.{limits_of};
 ghost use Rattle.leafd_cli.specs.Plain.{settled_upto, settle_at, missing, no_stream, rows_past, fed_rows, copied_entry};
-ghost use Rattle.leafd_cli.specs.Keeping.{IsKept, CanFollow};
+ghost use Rattle.leafd_cli.specs.Keeping.{AreSound, CanFollow};
 
-use crate::finding::origin_of;
+use crate::finding::origin_among;
 use crate::stream::Stream;
 use nats_text::{List, NoMemory};
 use std::alloc::Global;
@@ -15,7 +15,7 @@ use stream_fold::{Copies, Entry, Numbered};
 
 /// Gives each copy what its origin keeps, in the order in which they were made.
 pub fn settle(alloc: Global, streams: &mut Vec<Stream>) -> Result<(), NoMemory>
-    requires { IsKept streams.old.items }
+    requires { AreSound streams.old.items }
     ensures { OnOk result (streams.new.items ≡ settled_upto (length streams.old.items) streams.old.items) }
 {
     for place in 0..streams.len() {
@@ -27,7 +27,7 @@ pub fn settle(alloc: Global, streams: &mut Vec<Stream>) -> Result<(), NoMemory>
 /// Gives the stream at a place what it misses.
 fn feed(alloc: Global, streams: &mut Vec<Stream>, place: usize) -> Result<(), NoMemory>
     requires place { place < length streams.old.items }
-    requires kept { IsKept streams.old.items }
+    requires kept { AreSound streams.old.items }
     ensures { OnOk result (streams.new.items ≡ settle_at place streams.old.items) }
 {
     let Some(rows) = missing(alloc, streams, place)? else {
@@ -44,14 +44,14 @@ fn missing(
     place: usize,
 ) -> Result<Option<List<Numbered>>, NoMemory>
     requires place { place < length streams.now }
-    requires kept { IsKept streams.now }
+    requires kept { AreSound streams.now }
     ensures { IfOk result (λ rows. rows ≡ missing streams.now (slice_index_or streams.now place no_stream)) }
 {
     let copy = &streams[place];
     match &copy.config().copies {
         Copies::Nothing => Ok(None),
         Copies::Sources(_) => Ok(None),
-        Copies::Mirror(want) => match origin_of(streams, want) {
+        Copies::Mirror(want) => match origin_among(streams, want) {
             None => Ok(None),
             Some(origin) => Ok(Some(rows_past(alloc, copy.last(), origin.rows())?)),
         },

@@ -1,15 +1,15 @@
-ghost use Rattle.std.specs.Prelude.{◌≡◌, ◌<◌, ◌^◌, ◌∷◌, [], ◌++◌, length, IfOk, OnOk, map, is_some};
+ghost use Rattle.std.specs.Prelude.{◌≡◌, ◌<◌, ◌^◌, ◌∷◌, [], ◌++◌, length, IfOk, OnOk, OnErr, is_some};
 ghost use Rattle.std.specs.Str.{bytes_eq};
 ghost use Rattle.std.specs.List.{list_any};
 ghost use Rattle.nats_text.specs.Matching.{matches};
-ghost use Rattle.stream_fold.specs.Histories.{kept, last, clock, message_at};
+ghost use Rattle.stream_fold.specs.Histories.{History, kept, last, clock, message_at};
 ghost use Rattle.stream_fold.specs.Publishing.{verdict, GivesVerdict};
 ghost use Rattle.stream_fold.specs.Copying.{bound, start_by, configured, front};
-ghost use Rattle.stream_fold.specs.Held.{Fits, held_of, first_of};
+ghost use Rattle.stream_fold.specs.Held.{first_of, StandsFor, HasRoom};
+ghost use Rattle.stream_fold.specs.Fits.{Fits};
 ghost use Rattle.leafd_cli.specs.Logs.{is_at, history_of, limits_of};
 ghost use Rattle.leafd_cli.specs.Effects.{takes};
 ghost use Rattle.leafd_cli.specs.Operations.{new_stream};
-ghost use Rattle.leafd_cli.specs.Plain.{copied_entry};
 
 use nats_text::{List, Message, Name, NoMemory, Origin, Pattern, Start, Subject, matches};
 use std::alloc::Global;
@@ -41,24 +41,36 @@ impl Stream {
     pub fn new(alloc: Global, node: Name, config: Config) -> Result<Stream, NoMemory>
         ensures { IfOk result (λ s. s ≡ new_stream node config) }
     {
-        let state = StreamState::new(alloc, config.clone()?)?;
-        Ok(Stream {
-            node,
-            config,
-            log: List::new(alloc),
-            state,
-        })
+        match new_state(alloc, &config) {
+            Ok(state) => Ok(Stream {
+                node,
+                config,
+                log: List::new(alloc),
+                state,
+            }),
+            Err(NoMemory) => {
+                drop(node);
+                drop(config);
+                Err(NoMemory)
+            }
+        }
     }
 
     /// Adds an entry to the log. Without memory the stream stays as it was.
     pub fn add(&mut self, entry: Entry) -> Result<(), NoMemory>
-        requires { Fits (held_of (history_of self.old)) entry }
+        requires { Fits (history_of self.old) entry }
         ensures { OnOk result (self.new ≡ record self.old { entries = self.old.entries ++ entry ∷ [] }) }
     {
-        self.state.reserve_for(&entry)?;
-        self.log.push(entry.clone()?)?;
-        self.state.apply(entry);
-        Ok(())
+        match note(&mut self.log, &mut self.state, &entry) {
+            Ok(()) => {
+                self.state.apply(entry);
+                Ok(())
+            }
+            Err(NoMemory) => {
+                drop(entry);
+                Err(NoMemory)
+            }
+        }
     }
 
     pub fn is_at(&self, node: &Name, name: &Name) -> bool
@@ -166,6 +178,24 @@ impl Stream {
     {
         self.state.bound(0)
     }
+}
+
+fn new_state(alloc: Global, config: &Config) -> Result<StreamState, NoMemory>
+    ensures { IfOk result (λ state. StandsFor state (record { config = config.now; entries = [] })) }
+{
+    StreamState::new(alloc, config.clone()?)
+}
+
+/// Adds a copy of an entry to a log, and makes room for it in the state.
+fn note(log: &mut List<Entry>, state: &mut StreamState, entry: &Entry) -> Result<(), NoMemory>
+    ensures log { OnOk result (log.new ≡ log.old ++ entry.now ∷ []) }
+    ensures err { OnErr result (log.new ≡ log.old) }
+    ensures room { OnOk result (HasRoom state.new entry.now) }
+    ensures history { (h : History) → StandsFor state.old h → StandsFor state.new h }
+{
+    state.reserve_for(entry)?;
+    log.push(entry.clone()?)?;
+    Ok(())
 }
 
 fn start_by(bound: Option<BoundTo>, start: Start) -> u64

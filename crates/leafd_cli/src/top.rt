@@ -1,12 +1,11 @@
-ghost use Rattle.std.specs.Prelude.{◌≡◌, ◌↔◌, ◌≤◌, List as Items, ℕ, Some, None, false, length, map, is_some, MatchOption, IsTrue};
-ghost use Rattle.std.specs.Io.KnownBytes.{Keeps};
+ghost use Rattle.std.specs.Prelude.{◌≡◌, ◌≤◌, List as Items, ℕ, Some, None, false, length, map};
 ghost use Rattle.std.specs.String.{string_bytes};
 ghost use Rattle.std.specs.Option.{option_map};
 ghost use Rattle.leafd_cli.specs.declared.status.Status.TheVariants.{Usage};
-ghost use Rattle.leafd_cli.specs.Turns.{RanTo};
+ghost use Rattle.leafd_cli.specs.Reporting.{Prints};
 ghost use Rattle.leafd_cli.specs.Folders.{contents, KeepsFiles};
-ghost use Rattle.leafd_cli.specs.Inspecting.{Inspects};
-ghost use Rattle.leafd_cli.specs.Outcome.{Drills, Tells, CountsRead, CountsWrite, CountsDisks, ByWords, are_command, is_drill, folder};
+ghost use Rattle.leafd_cli.specs.Runs.{Ends, shown};
+ghost use Rattle.leafd_cli.specs.Outcome.{Drills, Tells, CountsRead, CountsWrite, CountsDisks, ByWords, is_drill, folder};
 
 use crate::Status;
 use crate::drill::run_script;
@@ -31,29 +30,16 @@ pub fn leafd_run<I: Source, O: Sink, E: Sink, F: Files, K: Clock>(
 ) -> Status
     requires in_place { F.tells → (name : Items ℕ) → F.is_out files.old name ≡ false }
 
-    // What a drill has written is the report of a right book for the lines that were read; what an
-    // inspection has written are the streams of the logs for which the disks stand.
-    ensures report { ByWords (map string_bytes words.now)
-        (Drills (I.left input.old) (I.left input.new) (O.taken out.old) (O.taken out.new) result)
-        (λ dir. Inspects F.tells (contents F.place F.D.seen files.old) dir (O.taken out.old) (O.taken out.new) result)
-        (Keeps (O.taken out.old) (O.taken out.new)) }
-
-    // When each fault comes: only where its count rose, and then it isn't passed over.
-    ensures usage { (result ≡ Usage) ↔ (are_command (map string_bytes words.now) ≡ false) }
-    ensures read { ByWords (map string_bytes words.now)
-        (CountsRead (I.faults input.old) (I.faults input.new) result)
-        (λ dir. CountsRead (F.faults files.old) (F.faults files.new) result)
-        (I.faults input.new ≡ I.faults input.old) }
-    ensures write { CountsWrite (O.faults out.old) (O.faults out.new) result }
-    ensures disk { CountsDisks (F.disk_faults files.old) (F.disk_faults files.new) result }
+    ensures ends { Ends (map string_bytes words.now) F.tells (contents F.place F.D.seen files.old)
+        (shown (I.left input.old) (O.taken out.old) (I.faults input.old) (O.faults out.old) (F.faults files.old) (F.disk_faults files.old))
+        (shown (I.left input.new) (O.taken out.new) (I.faults input.new) (O.faults out.new) (F.faults files.new) (F.disk_faults files.new)) result }
+    ensures told { Tells (E.taken err.old) (E.taken err.new) result }
 
     // What a command doesn't use stays, and what is used of the files is put back.
     ensures unused { ByWords (map string_bytes words.now) (files.new ≡ files.old) (λ _. input.new ≡ input.old) ((files.new ≡ files.old) × (input.new ≡ input.old)) }
     ensures kept { F.tells → KeepsFiles F.place F.is_out F.D.seen files.old files.new }
+    ensures leads { F.leads files.old files.new }
     ensures clock { clock.new ≡ clock.old }
-
-    // What was told of it.
-    ensures told { Tells (E.taken err.old) (E.taken err.new) result }
 {
     let _ = clock;
     let status = command(alloc, words, input, out, files);
@@ -69,19 +55,12 @@ fn command<I: Source, O: Sink, F: Files>(
     files: &mut F,
 ) -> Status
     requires in_place { F.tells → (name : Items ℕ) → F.is_out files.old name ≡ false }
-    ensures report { ByWords (map string_bytes words.now)
-        (Drills (I.left input.old) (I.left input.new) (O.taken out.old) (O.taken out.new) result)
-        (λ dir. Inspects F.tells (contents F.place F.D.seen files.old) dir (O.taken out.old) (O.taken out.new) result)
-        (Keeps (O.taken out.old) (O.taken out.new)) }
-    ensures usage { (result ≡ Usage) ↔ (are_command (map string_bytes words.now) ≡ false) }
-    ensures read { ByWords (map string_bytes words.now)
-        (CountsRead (I.faults input.old) (I.faults input.new) result)
-        (λ dir. CountsRead (F.faults files.old) (F.faults files.new) result)
-        (I.faults input.new ≡ I.faults input.old) }
-    ensures write { CountsWrite (O.faults out.old) (O.faults out.new) result }
-    ensures disk { CountsDisks (F.disk_faults files.old) (F.disk_faults files.new) result }
+    ensures ends { Ends (map string_bytes words.now) F.tells (contents F.place F.D.seen files.old)
+        (shown (I.left input.old) (O.taken out.old) (I.faults input.old) (O.faults out.old) (F.faults files.old) (F.disk_faults files.old))
+        (shown (I.left input.new) (O.taken out.new) (I.faults input.new) (O.faults out.new) (F.faults files.new) (F.disk_faults files.new)) result }
     ensures unused { ByWords (map string_bytes words.now) (files.new ≡ files.old) (λ _. input.new ≡ input.old) ((files.new ≡ files.old) × (input.new ≡ input.old)) }
     ensures kept { F.tells → KeepsFiles F.place F.is_out F.D.seen files.old files.new }
+    ensures leads { F.leads files.old files.new }
 {
     if is_drill(words) {
         return drill(alloc, input, out);
@@ -134,7 +113,7 @@ fn drill<I: Source, O: Sink>(alloc: Global, input: &mut I, out: &mut O) -> Statu
 /// Runs a script that was read.
 fn run_text<O: Sink>(alloc: Global, text: &[u8], out: &mut O) -> Status
     requires { length text.now ≤ 16777216 }
-    ensures ran { RanTo text.now (O.taken out.old) (O.taken out.new) result }
+    ensures ran { Prints text.now (O.taken out.old) (O.taken out.new) result }
     ensures disk { (before : ℕ) → CountsDisks before before result }
     ensures write { CountsWrite (O.faults out.old) (O.faults out.new) result }
 {

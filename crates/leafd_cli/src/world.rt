@@ -5,7 +5,7 @@ ghost use Rattle.leafd_cli.specs.Effects.{effect, answer_at};
 ghost use Rattle.leafd_cli.specs.Operations.{Task, worked, worked_in, new_stream};
 ghost use Rattle.leafd_cli.specs.Report.{printed, answer_text, answer_if};
 ghost use Rattle.leafd_cli.specs.Plain.{step};
-ghost use Rattle.leafd_cli.specs.Keeping.{IsKept, IsNumbered, AllNumbered, IsWellMade};
+ghost use Rattle.leafd_cli.specs.Keeping.{AreSound, IsNumbered, AllNumbered, IsWellMade};
 
 use crate::effects::effect;
 use crate::finding::{position_of, stream_at};
@@ -62,7 +62,7 @@ impl World {
     pub fn step(&mut self, alloc: Global, number: u64, line: Line) -> Result<Vec<u8>, NoMemory>
         requires legal { fault_of self.old line ≡ None }
         requires made { IsWellMade line }
-        requires kept { IsKept self.old.streams }
+        requires kept { AreSound self.old.streams }
         ensures world { OnOk result (self.new ≡ step self.old line) }
         ensures text { IfOk result (λ text. text.items ≡ printed number self.old line) }
     {
@@ -77,7 +77,7 @@ impl World {
                 node,
                 name,
                 changes,
-            } => self.work(alloc, number, &node, &name, Operation::Update { changes }),
+            } => self.work(alloc, number, node, name, Operation::Update { changes }),
             Line::Publish {
                 node,
                 name,
@@ -90,7 +90,7 @@ impl World {
                     headers,
                     text,
                 };
-                self.work(alloc, number, &node, &name, operation)
+                self.work(alloc, number, node, name, operation)
             }
             Line::PublishWithHeaders {
                 node,
@@ -104,10 +104,10 @@ impl World {
                     headers,
                     text,
                 };
-                self.work(alloc, number, &node, &name, operation)
+                self.work(alloc, number, node, name, operation)
             }
             Line::Delete { node, name, seq } => {
-                self.work(alloc, number, &node, &name, Operation::Delete { seq })
+                self.work(alloc, number, node, name, Operation::Delete { seq })
             }
             Line::Purge {
                 node,
@@ -117,12 +117,12 @@ impl World {
             } => self.work(
                 alloc,
                 number,
-                &node,
-                &name,
+                node,
+                name,
                 Operation::Purge { pattern, below },
             ),
             Line::Expire { node, name } => {
-                self.work(alloc, number, &node, &name, Operation::Expire)
+                self.work(alloc, number, node, name, Operation::Expire)
             }
             Line::Clock { moment } => {
                 self.clock = moment;
@@ -161,15 +161,25 @@ impl World {
         &mut self,
         alloc: Global,
         number: u64,
-        node: &Name,
-        name: &Name,
+        node: Name,
+        name: Name,
         operation: Operation,
     ) -> Result<Vec<u8>, NoMemory>
         requires { AllNumbered self.old.streams }
-        ensures world { OnOk result (self.new ≡ record self.old { streams = worked_in self.old.clock (record { node = node.now; name = name.now; operation = operation }) self.old.streams }) }
-        ensures text { IfOk result (λ text. text.items ≡ answer_text self.old.quiet number (answer_at self.old.clock operation (stream_at node.now name.now self.old.streams))) }
+        ensures world { OnOk result (self.new ≡ record self.old { streams = worked_in self.old.clock (record { node = node; name = name; operation = operation }) self.old.streams }) }
+        ensures text { IfOk result (λ text. text.items ≡ answer_text self.old.quiet number (answer_at self.old.clock operation (stream_at node name self.old.streams))) }
     {
-        match work_in(alloc, self.clock, &mut self.streams, node, name, operation)? {
+        let text = work_in(
+            alloc,
+            self.clock,
+            &mut self.streams,
+            &node,
+            &name,
+            operation,
+        );
+        drop(node);
+        drop(name);
+        match text? {
             Some(text) => answer(alloc, self.quiet, number, text.as_slice()),
             None => Ok(Vec::new(alloc)),
         }

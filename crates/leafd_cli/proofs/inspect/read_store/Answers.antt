@@ -4,7 +4,7 @@ use Rattle.std.specs.Option.{option_map}
 use Rattle.leaf_edges.specs.Files.{IfHanded, GoesOut, SameFiles}
 use Rattle.shard_store.specs.declared.fault.Part.TheVariants.{Spare}
 use Rattle.leafd_cli.specs.Folders.{contents, path}
-use Rattle.leafd_cli.specs.Inspections.{Reads}
+use Rattle.leafd_cli.specs.Inspections.{ReadsDisks}
 use Rattle.leafd_cli.proofs.Handing.{main_kept}
 use Rattle.leafd_cli.proofs.Sparing.{handed_bytes}
 use Rattle.leafd_cli.proofs.Pushing.{paths_apart, shard_faulted}
@@ -55,7 +55,7 @@ returns-in-Ok-clause-answer g c = λ tells.
     let bytes = handed_bytes D.seen D.images D.moment D.left_since D.unsynced D.done D.failed (F.place files name) c.in_ok-disk.field-0 (c.in_ok-disk.ensures.disk tells) ∙ ap (option_map D.seen) c.in-Some.is in
     let apart = subst (λ (n : List ℕ). path c.args.dir.now c.args.shard Spare ≢ n) (sym out_is) (paths_apart c.args.dir.now c.args.shard) in
     let spare = ap (option_map D.seen) (handed.other_places (path c.args.dir.now c.args.shard Spare) apart) in
-    (D.seen c.in-Some.disk, ap (contents F.place D.seen files) (sym out_is) ∙ bytes, subst (λ (b : Option (List ℕ)). Reads c.args.shard (D.seen c.in-Some.disk) b (Ok c.in-Ok.found)) spare (c.in-Ok.ensures.answer tells))
+    (D.seen c.in-Some.disk, ap (contents F.place D.seen files) (sym out_is) ∙ bytes, subst (λ (b : Option (List ℕ)). ReadsDisks c.args.shard (D.seen c.in-Some.disk) b (Ok c.in-Ok.found)) spare (c.in-Ok.ensures.answer tells))
 
 pub returns-clause-answer : goal.returns-clause-answer
 returns-clause-answer g c = λ tells.

@@ -29,6 +29,7 @@ loop-shard-preserved g c =
       within = search rules;
       shown = λ tells. shards_shown (contents F.place seen c.args.files.now) (contents F.place seen c.loop-shard.files) c.args.dir.now c.loop-shard.report.items pushed.0 c.push_shard.new.report.items c.loop-shard.shard _ (omega arith) (inv.kept tells).bytes (inv.shown tells) pushed.1 (pushed.2 tells);
       kept = λ tells. keeps_on F.place F.is_out seen c.args.files.now c.loop-shard.files c.push_shard.new.files (inv.kept tells) (c.push_shard.ensures.kept tells);
+      leads = g.met.F.Files.leads_on c.args.files.now c.loop-shard.files c.push_shard.new.files inv.leads c.push_shard.ensures.leads;
       faults = search rules;
       disk_faults = search rules;
     }

@@ -9,6 +9,7 @@ invariant-loop-shard g l = record {
   within : l.shard ≤ 8;
   shown : g.F.Files.tells → ShowsBelow (contents g.F.Files.place g.F.D.Disk.seen l.initial.files) l.dir l.shard l.report.items;
   kept : g.F.Files.tells → KeepsFiles g.F.Files.place g.F.Files.is_out g.F.D.Disk.seen l.initial.files l.files;
+  leads : g.F.Files.leads l.initial.files l.files;
   faults : g.F.Files.faults l.files ≡ g.F.Files.faults l.initial.files;
   disk_faults : g.F.Files.disk_faults l.files ≡ g.F.Files.disk_faults l.initial.files;
 }

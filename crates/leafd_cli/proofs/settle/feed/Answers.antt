@@ -1,7 +1,7 @@
 use Rattle.std.proofs.Common.{◌≡◌, ◌<◌, Some, List, get_or, refl, sym, ap, subst, ◌∙◌}
 use Rattle.stream_fold.specs.declared.entry.Numbered.{Numbered}
 use Rattle.stream_fold.specs.Histories.{last}
-use Rattle.stream_fold.specs.Held.{index_count}
+use Rattle.stream_fold.specs.Fits.{index_count}
 use Rattle.leafd_cli.specs.Logs.{StreamLog, limits_of}
 use Rattle.leafd_cli.specs.Plain.{missing, no_stream}
 use Rattle.leafd_cli.specs.Keeping.{CanFollow}

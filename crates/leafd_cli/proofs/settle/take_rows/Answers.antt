@@ -2,7 +2,7 @@ use Rattle.std.proofs.Common.{sym, subst, ◌∙◌}
 use Rattle.stream_fold.specs.Histories.{last}
 use Rattle.leafd_cli.specs.Logs.{StreamLog}
 use Rattle.leafd_cli.specs.Keeping.{CanFollow}
-use Rattle.leafd_cli.proofs.Growing.{bound_on}
+use Rattle.leafd_cli.proofs.Following.{bound_on}
 use Rattle.leafd_cli.proofs.settle.take_rows.Goals as goal
 use Rattle.leafd_cli.proofs.settle.take_rows.Goals.{then-is_none+in_ok-add, else-is_none}
 

@@ -2,7 +2,15 @@
 //! `leafd_cli::leafd_run`.
 #![tactic(auto)]
 
-use leaf_edges::{DirFiles, StdErr, StdIn, StdOut, SysClock};
+ghost use Rattle.std.specs.Prelude.{◌≡◌, List as Items, ℕ, false, map};
+ghost use Rattle.std.specs.String.{string_bytes};
+ghost use Rattle.std.specs.Process.{exit_status};
+ghost use Rattle.leafd_cli.specs.declared.status.Status.{Status};
+ghost use Rattle.leafd_cli.specs.Folders.{contents};
+ghost use Rattle.leafd_cli.specs.Outcome.{status_number, Tells};
+ghost use Rattle.leafd_cli.specs.Runs.{Ends, shown};
+
+use leaf_edges::{Clock, DirFiles, Files, Sink, Source, StdErr, StdIn, StdOut, SysClock};
 use leafd_cli::{Status, leafd_run};
 use std::alloc::{AllocError, Global};
 use std::env;
@@ -18,9 +26,28 @@ fn main(rt: HostRuntime) -> ExitCode {
     let mut err = StdErr::new(rt.stderr());
     let mut files = DirFiles::new(rt, folder);
     let mut clock = SysClock::new(rt);
-    let status = leafd_run(
+    run(
         alloc, &words, &mut input, &mut out, &mut err, &mut files, &mut clock,
-    );
+    )
+}
+
+/// Does the command of the words, and ends with the number of its status.
+fn run<I: Source, O: Sink, E: Sink, F: Files, K: Clock>(
+    alloc: Global,
+    words: &[String],
+    input: &mut I,
+    out: &mut O,
+    err: &mut E,
+    files: &mut F,
+    clock: &mut K,
+) -> ExitCode
+    requires in_place { F.tells → (name : Items ℕ) → F.is_out files.old name ≡ false }
+    ensures number { (status : Status) × (exit_status result ≡ status_number status) × Tells (E.taken err.old) (E.taken err.new) status
+        × Ends (map string_bytes words.now) F.tells (contents F.place F.D.seen files.old)
+        (shown (I.left input.old) (O.taken out.old) (I.faults input.old) (O.faults out.old) (F.faults files.old) (F.disk_faults files.old))
+        (shown (I.left input.new) (O.taken out.new) (I.faults input.new) (O.faults out.new) (F.faults files.new) (F.disk_faults files.new)) status }
+{
+    let status = leafd_run(alloc, words, input, out, err, files, clock);
     ExitCode::from(status.number())
 }
 

@@ -24,6 +24,7 @@ CausesOne before now (Ok value) = now ≡ before
 CausesOne before now (Err Failed) = RoseByOne before now
 CausesOne before now (Err NoMemory) = now ≡ before
 
+-- the same for a read
 abbrev pub ReadCauses : ℕ → ℕ → Result ℕ EdgeError → Type 0
 ReadCauses before now result = Causes before now result
 

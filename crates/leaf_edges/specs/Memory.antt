@@ -32,6 +32,7 @@ ReadsMost old new (Ok count) buf =
     (count ≡ min (length buf) (length old.left)) × (take count buf ≡ take count old.left) × (new ≡ record old { left = drop count old.left; calls = risen old.calls })
 ReadsMost old new (Err error) buf = ⊥
 
+-- a read fails exactly where its number is listed, and else gives as much as there is and fits
 abbrev pub ReadsExactly : Reading → Reading → Result ℕ EdgeError → List ℕ → Type 0
 ReadsExactly old new result buf = MatchBool (is_failing old.failing old.calls)
     ((result ≡ Err Failed) × (new ≡ record old { calls = risen old.calls; faults = risen old.faults }))
@@ -43,6 +44,7 @@ WritesAll old new (Ok count) bytes = (count ≡ length bytes) × (new ≡ record
 WritesAll old new (Err Failed) bytes = ⊥
 WritesAll old new (Err NoMemory) bytes = new ≡ record old { calls = risen old.calls }
 
+-- a write fails exactly where its number is listed, and else takes the whole piece
 abbrev pub WritesExactly : Writing → Writing → Result ℕ EdgeError → List ℕ → Type 0
 WritesExactly old new result bytes = MatchBool (is_failing old.failing old.calls)
     ((result ≡ Err Failed) × (new ≡ record old { calls = risen old.calls; faults = risen old.faults }))

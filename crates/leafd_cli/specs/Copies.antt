@@ -24,6 +24,7 @@ abbrev pub IsRightMirror : List StreamLog → StreamLog → Origin → Type 0
 IsRightMirror streams copy want =
     (origin : StreamLog) × (origin_among want streams ≡ Some origin) × CopyHolds (bound 0 copy.entries) want.start (history_of origin) copy.entries
 
+-- a copy has what its origin's log says; no line makes a stream with sources yet
 abbrev pub IsRightCopy : List StreamLog → StreamLog → Copies → Type 0
 IsRightCopy streams copy Nothing = Unit {0}
 IsRightCopy streams copy (Mirror want) = IsRightMirror streams copy want
@@ -44,11 +45,13 @@ abbrev pub IsThroughMirror : List StreamLog → StreamLog → Origin → Type 0
 IsThroughMirror streams copy want =
     (origin : StreamLog) × (origin_among want streams ≡ Some origin) × (to : BoundTo) × (bound 0 copy.entries ≡ Some to) × HasAll (front want.start copy.entries) (kept (history_of origin))
 
+-- a copy is bound and has come as far as its origin; no line makes a stream with sources yet
 abbrev pub IsThrough : List StreamLog → StreamLog → Copies → Type 0
 IsThrough streams copy Nothing = Unit {0}
 IsThrough streams copy (Mirror want) = IsThroughMirror streams copy want
 IsThrough streams copy (Sources wants) = ⊥
 
+-- each of some streams has come as far as its origin, or copies nothing
 abbrev pub AreThrough : List StreamLog → List StreamLog → Type 0
 AreThrough all [] = Unit {0}
 AreThrough all (s ∷ streams) = IsThrough all s s.config.copies × AreThrough all streams

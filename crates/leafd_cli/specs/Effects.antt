@@ -54,6 +54,7 @@ message_of now subject headers text s = record { subject = subject; headers = he
 abbrev pub stored : Message → StreamLog → Effect
 stored m s = makes (Put (last s.entries + 1) m None) (counted (codes "stored") (last s.entries + 1))
 
+-- what a publish makes and is answered, by its verdict
 abbrev pub published : Message → StreamLog → Result Verdict Refusal → Effect
 published m s (Ok Fresh) = stored m s
 published m s (Ok (Duplicate seq)) = answers (counted (codes "duplicate") seq)
@@ -71,9 +72,11 @@ delete_effect seq s = if is_some (message_at seq (kept (history_of s))) then mak
 abbrev pub taking : ℕ → Entry → List ℕ → Effect
 taking count entry text = if count == 0 then answers text else makes entry text
 
+-- a purge makes its entry where it takes something, and is answered with how many messages it takes
 abbrev pub purge_effect : List ℕ → ℕ → StreamLog → Effect
 purge_effect pattern below s = taking (count_by (is_purged pattern below) (kept (history_of s))) (Purge pattern below) (counted (codes "purged") (count_by (is_purged pattern below) (kept (history_of s))))
 
+-- the same of an expiry at a moment
 abbrev pub expire_effect : ℕ → StreamLog → Effect
 expire_effect now s = taking (count_by (is_expired (limits_of s).max_age now) (kept (history_of s))) (Expire now) (counted (codes "expired") (count_by (is_expired (limits_of s).max_age now) (kept (history_of s))))
 

@@ -57,9 +57,11 @@ pub record IsFirstFault (Fault : List ℕ → Option (List ℕ) → Part → Typ
   pub earlier : ShowsBelow files dir shard before
   pub fault : FaultIn Fault files dir shard name
 
+-- neither disk is too long, and this is the first fault of the two
 abbrev pub IsBadAt : ℕ → List ℕ → Option (List ℕ) → Part → Type 0
 IsBadAt place a b part = AreShort a b × IsBadStore a b part place
 
+-- the first of the two disks that is too long has so many bytes
 abbrev pub IsLongBy : ℕ → List ℕ → Option (List ℕ) → Part → Type 0
 IsLongBy len a b part = IsTooLong a b part len
 

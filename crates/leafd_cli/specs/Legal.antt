@@ -19,6 +19,7 @@ use Rattle.leafd_script.specs.declared.fault.ScriptKind.TheVariants.{BadOption, 
 use Rattle.leafd_cli.specs.Logs.{StreamLog, Logs, limits_of, stream_at, has_node}
 use Rattle.leafd_cli.specs.ScriptLines.{ScriptLine, said_by}
 
+-- this kind of fault, where it is there
 abbrev pub fault_if : Bool → ScriptKind → Option ScriptKind
 fault_if wrong kind = if wrong then Some kind else None
 
@@ -28,6 +29,7 @@ fault_if wrong kind = if wrong then Some kind else None
 abbrev pub shard_of : List ℕ → ℕ
 shard_of name = fnv1a name % 8
 
+-- the stream stands in this shard of the node
 abbrev pub is_in_shard : List ℕ → ℕ → StreamLog → Bool
 is_in_shard node shard s = bytes_eq s.node node && (shard_of s.config.name == shard)
 
@@ -36,9 +38,11 @@ abbrev pub is_node : Option (List ℕ) → List ℕ → Bool
 is_node None node = false
 is_node (Some n) node = bytes_eq n node
 
+-- the origin is the stream of this name on this node
 abbrev pub is_from : List ℕ → List ℕ → Origin → Bool
 is_from node name origin = is_node origin.node node && bytes_eq origin.stream name
 
+-- the origins of a stream, in the order of their indexes
 abbrev pub origins_of : Copies → List Origin
 origins_of Nothing = []
 origins_of (MirrorOf origin) = origin ∷ []
@@ -66,6 +70,7 @@ abbrev pub stream_among : Option (List ℕ) → List ℕ → List StreamLog → 
 stream_among None name streams = None
 stream_among (Some node) name streams = stream_at node name streams
 
+-- the stream that an origin names, among all
 abbrev pub origin_among : Origin → List StreamLog → Option StreamLog
 origin_among origin streams = stream_among origin.node origin.stream streams
 
@@ -110,9 +115,11 @@ place_fault nodes streams node name = either (fault_if (not (has_node node nodes
 abbrev pub is_too_large : HeaderBlock → List ℕ → Bool
 is_too_large headers text = nat_lt 2000000 (length (written headers) + length text)
 
+-- why a publish isn't legal in its place
 abbrev pub publish_fault : List (List ℕ) → List StreamLog → List ℕ → List ℕ → HeaderBlock → List ℕ → Option ScriptKind
 publish_fault nodes streams node name headers text = either (place_fault nodes streams node name) (fault_if (is_too_large headers text) TooMany)
 
+-- the new value, or the old one where none is named
 abbrev pub changed_to : {A : Type 0} → A → Option A → A
 changed_to old None = old
 changed_to old (Some new) = new
@@ -168,5 +175,6 @@ judged_line logs (Ok None) = Ok None
 judged_line logs (Ok (Some line)) = line_or line (fault_of logs line)
 judged_line logs (Err kind) = Err kind
 
+-- what a line says where it is legal in its place, or the first of its faults
 abbrev pub judged : Logs → ScriptLine → Result (Option Line) ScriptKind
 judged logs line = judged_line logs (said_by line)

@@ -20,6 +20,7 @@ pub record Logs : Type 0 where
   pub clock : ℕ
   pub quiet : Bool
 
+-- no nodes and no streams, and the clock at 0
 abbrev pub no_logs : Logs
 no_logs = record { nodes = []; streams = []; clock = 0; quiet = false }
 
@@ -31,6 +32,7 @@ history_of s = record { config = s.config; entries = s.entries }
 abbrev pub limits_of : StreamLog → Config
 limits_of s = (stands (history_of s)).limits
 
+-- the stream is the one of this name on this node
 abbrev pub is_at : List ℕ → List ℕ → StreamLog → Bool
 is_at node name s = bytes_eq s.node node && bytes_eq s.config.name name
 
@@ -39,5 +41,6 @@ abbrev pub stream_at : List ℕ → List ℕ → List StreamLog → Option Strea
 stream_at node name [] = None
 stream_at node name (s ∷ streams) = if is_at node name s then Some s else stream_at node name streams
 
+-- there is a node of this name
 abbrev pub has_node : List ℕ → List (List ℕ) → Bool
 has_node node nodes = list_any (λ n. bytes_eq n node) nodes

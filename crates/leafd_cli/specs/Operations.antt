@@ -41,6 +41,7 @@ task_of (Log node name) = None
 task_of Heads = None
 task_of Quiet = None
 
+-- a stream without entries
 abbrev pub new_stream : List ℕ → Config → StreamLog
 new_stream node config = record { node = node; config = config; entries = [] }
 
@@ -50,6 +51,7 @@ made_by (Stream node config) = new_stream node config ∷ []
 made_by (Mirror node config) = new_stream node config ∷ []
 made_by _ = []
 
+-- the stream with this entry, where there is one
 abbrev pub appended : Option Entry → StreamLog → StreamLog
 appended None s = s
 appended (Some entry) s = record s { entries = s.entries ++ entry ∷ [] }
@@ -63,6 +65,7 @@ abbrev pub worked_in : ℕ → Task → List StreamLog → List StreamLog
 worked_in now task [] = []
 worked_in now task (s ∷ streams) = if is_at task.node task.name s then worked now task.operation s ∷ streams else s ∷ worked_in now task streams
 
+-- the streams after an operation, where the line is one
 abbrev pub worked_if : ℕ → Option Task → List StreamLog → List StreamLog
 worked_if now None streams = streams
 worked_if now (Some task) streams = worked_in now task streams

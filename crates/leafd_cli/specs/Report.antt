@@ -38,6 +38,7 @@ message_text seq m = decimal seq ++ 32 ∷ (decimal m.time ++ 32 ∷ (m.subject 
 abbrev pub pair_text : Pair → List ℕ
 pair_text pair = 32 ∷ 32 ∷ (pair.name ++ 58 ∷ 32 ∷ (pair.value ++ 10 ∷ []))
 
+-- the header lines of a message
 abbrev pub pairs_text : Message → List ℕ
 pairs_text m = flat_map pair_text m.headers.pairs
 
@@ -45,6 +46,7 @@ pairs_text m = flat_map pair_text m.headers.pairs
 abbrev pub row_text : Numbered → List ℕ
 row_text row = message_text row.seq row.message ++ 10 ∷ pairs_text row.message
 
+-- the name of a node, where there is one
 abbrev pub node_text : Option (List ℕ) → List ℕ
 node_text None = []
 node_text (Some node) = node
@@ -59,6 +61,7 @@ origins_text s Nothing = []
 origins_text s (MirrorOf want) = front_text want (front want.start s.entries)
 origins_text s (Sources wants) = []
 
+-- the node and name of a stream
 abbrev pub title_text : StreamLog → List ℕ
 title_text s = codes "stream " ++ (s.node ++ 32 ∷ s.config.name)
 
@@ -66,6 +69,7 @@ title_text s = codes "stream " ++ (s.node ++ 32 ∷ s.config.name)
 abbrev pub numbers_text : ℕ → ℕ → ℕ → List ℕ
 numbers_text first last count = codes " first " ++ (decimal first ++ (codes " last " ++ (decimal last ++ (codes " kept " ++ (decimal count ++ 10 ∷ [])))))
 
+-- the numbers of a stream: first, last and how many are kept
 abbrev pub counts_text : StreamLog → List ℕ
 counts_text s = numbers_text (first_of (kept (history_of s)) (last s.entries)) (last s.entries) (length (kept (history_of s)))
 
@@ -79,6 +83,7 @@ abbrev pub show_text : Option StreamLog → List ℕ
 show_text None = []
 show_text (Some s) = head_text s ++ flat_map row_text (kept (history_of s))
 
+-- the mark of an entry in a log
 abbrev pub logged_mark : Option Mark → List ℕ
 logged_mark None = []
 logged_mark (Some mark) = counted (counted (codes " mark") mark.index) mark.seq
@@ -113,6 +118,7 @@ heads_text nodes streams = flat_map (λ node. flat_map head_text (streams_on str
 abbrev pub answer_if : Bool → ℕ → List ℕ → List ℕ
 answer_if quiet number text = if quiet then [] else answer number text
 
+-- the answer of a line, unless answers are no more printed or there is none
 abbrev pub answer_text : Bool → ℕ → Option (List ℕ) → List ℕ
 answer_text quiet number None = []
 answer_text quiet number (Some text) = answer_if quiet number text

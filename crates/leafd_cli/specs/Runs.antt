@@ -15,6 +15,7 @@ pub record Shown : Type 0 where
   pub file_faults : ℕ
   pub disk_faults : ℕ
 
+-- what these objects show
 abbrev pub shown : Option (List ℕ) → Option (List ℕ) → ℕ → ℕ → ℕ → ℕ → Shown
 shown left taken input_faults output_faults file_faults disk_faults = record { left = left; taken = taken; input_faults = input_faults; output_faults = output_faults; file_faults = file_faults; disk_faults = disk_faults }
 

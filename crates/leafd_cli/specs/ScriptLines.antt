@@ -15,10 +15,12 @@ abbrev pub tail_line : List ℕ → List ScriptLine
 tail_line [] = []
 tail_line (b ∷ bs) = record { bytes = b ∷ bs; ended = false } ∷ []
 
+-- the lines of the parts between line feeds, the first of which is this one
 abbrev pub lines_on : List ℕ → List (List ℕ) → List ScriptLine
 lines_on part [] = tail_line part
 lines_on part (next ∷ parts) = record { bytes = part; ended = true } ∷ lines_on next parts
 
+-- the lines of the parts between line feeds
 abbrev pub lines_from : List (List ℕ) → List ScriptLine
 lines_from [] = []
 lines_from (part ∷ parts) = lines_on part parts
@@ -27,6 +29,7 @@ lines_from (part ∷ parts) = lines_on part parts
 abbrev pub lines_of : List ℕ → List ScriptLine
 lines_of text = lines_from (pieces 10 text)
 
+-- the last byte is a carriage return
 abbrev pub ends_in_return : List ℕ → Bool
 ends_in_return bytes = nat_lt 0 (length bytes) && slice_index bytes (length bytes - 1) == 13
 

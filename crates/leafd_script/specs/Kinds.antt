@@ -3,6 +3,7 @@ use Rattle.std.specs.Prelude.{ℕ, List, codes}
 use Rattle.leafd_script.specs.declared.fault.ScriptKind.{ScriptKind}
 use Rattle.leafd_script.specs.declared.fault.ScriptKind.TheVariants.{NotYet, BadLine, BadName, BadSubject, BadNumber, BadOption, NodeTaken, NoNode, NoLink, StreamTaken, NoStream, Overlap, Cycle, TooMany}
 
+-- the word by which a kind of fault is told
 abbrev pub kind_word : ScriptKind → List ℕ
 kind_word NotYet = codes "NotYet"
 kind_word BadLine = codes "BadLine"

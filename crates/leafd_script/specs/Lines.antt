@@ -18,6 +18,7 @@ use Rattle.leafd_script.specs.declared.line.Line.TheVariants.{Node, Stream, Mirr
 
 -- ---- lines with options
 
+-- `stream` with a node, a name and options
 abbrev pub stream_of : List ℕ → List ℕ → List (List ℕ) → Result Line ScriptKind
 stream_of n s options = do
   node ← name_of n
@@ -35,6 +36,7 @@ stream_line (n ∷ s ∷ options) =
     else (if fits stream_options (n ∷ s ∷ options) options then stream_of n s options else Err BadLine)
 stream_line _ = Err BadLine
 
+-- `mirror` with a node, a name, the node and name of the origin, and options
 abbrev pub mirror_of : List ℕ → List ℕ → List ℕ → List ℕ → List (List ℕ) → Result Line ScriptKind
 mirror_of n s on os options = do
   node ← name_of n
@@ -53,6 +55,7 @@ mirror_line (n ∷ s ∷ on ∷ os ∷ options) =
     else (if fits mirror_options (n ∷ s ∷ on ∷ os ∷ options) options then mirror_of n s on os options else Err BadLine)
 mirror_line _ = Err BadLine
 
+-- `update` with a node, a name and options
 abbrev pub update_of : List ℕ → List ℕ → List (List ℕ) → Result Line ScriptKind
 update_of n s options = do
   node ← name_of n
@@ -69,6 +72,7 @@ update_line _ = Err BadLine
 
 -- ---- lines with a text
 
+-- `pub` with a node, a name, a subject and a text
 abbrev pub publish_of : List ℕ → List ℕ → List ℕ → List ℕ → Result Line ScriptKind
 publish_of n s t text =
     if has_empty (n ∷ s ∷ t ∷ []) then Err BadLine
@@ -83,6 +87,7 @@ abbrev pub publish_line : List (List ℕ) → Result Line ScriptKind
 publish_line (n ∷ s ∷ t ∷ more) = publish_of n s t (joined 32 more)
 publish_line _ = Err BadLine
 
+-- `hpub`, which has headers too
 abbrev pub headed_of : List ℕ → List ℕ → List ℕ → List ℕ → List ℕ → Result Line ScriptKind
 headed_of n s t h text =
     if has_empty (n ∷ s ∷ t ∷ []) then Err BadLine
@@ -107,6 +112,7 @@ node_line (n ∷ []) = do
   Ok (Node node)
 node_line _ = Err BadLine
 
+-- `del` with a node, a name and a number
 abbrev pub delete_of : List ℕ → List ℕ → List ℕ → Result Line ScriptKind
 delete_of n s q = do
   node ← name_of n
@@ -119,12 +125,14 @@ abbrev pub delete_line : List (List ℕ) → Result Line ScriptKind
 delete_line (n ∷ s ∷ q ∷ []) = delete_of n s q
 delete_line _ = Err BadLine
 
+-- `purge` of all messages
 abbrev pub purge_all : List ℕ → List ℕ → Result Line ScriptKind
 purge_all n s = do
   node ← name_of n
   name ← name_of s
   Ok (Purge node name None None)
 
+-- `purge` of what a pattern matches
 abbrev pub purge_matching : List ℕ → List ℕ → List ℕ → Result Line ScriptKind
 purge_matching n s p = do
   node ← name_of n
@@ -132,6 +140,7 @@ purge_matching n s p = do
   pattern ← pattern_of p
   Ok (Purge node name (Some pattern) None)
 
+-- `purge` of what a pattern matches below a number
 abbrev pub purge_below : List ℕ → List ℕ → List ℕ → List ℕ → Result Line ScriptKind
 purge_below n s p q = do
   node ← name_of n
@@ -216,6 +225,7 @@ abbrev pub is_silent : List ℕ → Bool
 is_silent [] = true
 is_silent (b ∷ bs) = b == 35
 
+-- the line that was read
 abbrev pub some_line : Result Line ScriptKind → Result (Option Line) ScriptKind
 some_line read = do
   line ← read

@@ -32,6 +32,7 @@ begins_one_of names w = list_any (λ name. begins name w) names
 abbrev pub later_options : List (List ℕ)
 later_options = codes "transform=" ∷ codes "start=" ∷ codes "filter=" ∷ codes "map=" ∷ codes "from=" ∷ []
 
+-- one of the words is such an option
 abbrev pub has_later : List (List ℕ) → Bool
 has_later words = list_any (begins_one_of later_options) words
 
@@ -67,6 +68,7 @@ abbrev pub value_of : List ℕ → List (List ℕ) → Option (List ℕ)
 value_of name [] = None
 value_of name (w ∷ ws) = if begins name w then Some (drop (length name) w) else value_of name ws
 
+-- the number of an option, where it is there
 abbrev pub number_value : Option (List ℕ) → Result (Option ℕ) ScriptKind
 number_value None = Ok None
 number_value (Some digits) = do
@@ -77,6 +79,7 @@ number_value (Some digits) = do
 abbrev pub number_option : List ℕ → List (List ℕ) → Result (Option ℕ) ScriptKind
 number_option name options = number_value (value_of name options)
 
+-- the word of `discard=`, where it is there
 abbrev pub discard_value : Option (List ℕ) → Result (Option Discard) ScriptKind
 discard_value None = Ok None
 discard_value (Some w) =
@@ -110,6 +113,7 @@ pattern_option w = if is_pattern w then Ok w else Err BadOption
 abbrev pub patterns_of : List (List ℕ) → Result (List (List ℕ)) ScriptKind
 patterns_of words = if list_all is_pattern words then Ok words else Err BadOption
 
+-- the patterns of `subjects=`, or the stream's name where it isn't there
 abbrev pub subjects_of : List ℕ → List (List ℕ) → Result (List (List ℕ)) ScriptKind
 subjects_of name options = patterns_of (subject_words name (value_of (codes "subjects=") options))
 
@@ -120,6 +124,7 @@ abbrev pub or_zero : Option ℕ → ℕ
 or_zero None = 0
 or_zero (Some n) = n
 
+-- what was named, or `old`
 abbrev pub or_old : Option Discard → Discard
 or_old None = Old
 or_old (Some discarded) = discarded

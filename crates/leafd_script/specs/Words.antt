@@ -33,6 +33,7 @@ is_one_of texts w = list_any (λ text. bytes_eq w text) texts
 
 -- ---- words that are read alone
 
+-- a word that is a name
 abbrev pub name_of : List ℕ → Result (List ℕ) ScriptKind
 name_of w = if is_name w then Ok w else Err BadName
 
@@ -40,12 +41,15 @@ name_of w = if is_name w then Ok w else Err BadName
 abbrev pub is_reserved : List ℕ → Bool
 is_reserved w = bytes_eq w (codes "API") || bytes_eq w (codes "M") || bytes_eq w (codes "FC")
 
+-- a word that a node may have as its name
 abbrev pub node_name_of : List ℕ → Result (List ℕ) ScriptKind
 node_name_of w = if is_reserved w then Err BadName else name_of w
 
+-- a word that is a subject
 abbrev pub subject_of : List ℕ → Result (List ℕ) ScriptKind
 subject_of w = if is_subject w then Ok w else Err BadSubject
 
+-- a word that is a pattern
 abbrev pub pattern_of : List ℕ → Result (List ℕ) ScriptKind
 pattern_of w = if is_pattern w then Ok w else Err BadSubject
 
@@ -54,6 +58,7 @@ abbrev pub found_or : {A : Type 0} → ScriptKind → Option A → Result A Scri
 found_or kind None = Err kind
 found_or kind (Some x) = Ok x
 
+-- a word that is a number
 abbrev pub number_word : List ℕ → Result ℕ ScriptKind
 number_word w = found_or BadNumber (number_of w)
 

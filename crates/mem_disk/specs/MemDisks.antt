@@ -75,30 +75,39 @@ past_unsynced p = has_some (crash_content p).since
 
 -- the same of the disk, which tells all
 
+-- it tells all
 abbrev pub disk_tells : Type 0
 disk_tells = Unit {0}
 
+-- what a read gives
 abbrev pub disk_seen : DiskState → List ℕ
 disk_seen d = past_seen d.past
 
+-- the images that a crash may leave now
 abbrev pub disk_images : DiskState → List ℕ → Type 0
 disk_images d = PastImages d.past
 
+-- the count of its calls that were Ok
 abbrev pub disk_moment : DiskState → ℕ
 disk_moment d = past_moment d.past
 
+-- the images that a crash since a moment may have left
 abbrev pub disk_left_since : DiskState → ℕ → List ℕ → Type 0
 disk_left_since d = PastLeftSince d.past
 
+-- whether anything is unsynced
 abbrev pub disk_unsynced : DiskState → Bool
 disk_unsynced d = past_unsynced d.past
 
+-- its writes, cuts and syncs that were Ok
 abbrev pub disk_done : DiskState → List Op
 disk_done d = d.past.done
 
+-- the one that failed last
 abbrev pub disk_failed : DiskState → Option Op
 disk_failed d = d.last_failed
 
+-- how many of its calls failed
 abbrev pub disk_faults : DiskState → ℕ
 disk_faults d = d.fault_count
 

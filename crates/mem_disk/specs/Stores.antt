@@ -79,24 +79,31 @@ forgiven disk = record disk { fault_count = 0 }
 
 -- what the trait asks of it
 
+-- it tells all
 abbrev pub store_tells : Type 0
 store_tells = Unit {0}
 
+-- the disk in its place under a name
 abbrev pub store_place : Store → List ℕ → Option DiskState
 store_place s name = disk_in s.slots name
 
+-- whether the disk of a name is out
 abbrev pub store_is_out : Store → List ℕ → Bool
 store_is_out s name = is_out_in s.slots name
 
+-- the names whose disks were handed out
 abbrev pub store_handed : Store → List (List ℕ)
 store_handed s = s.handed
 
+-- the bytes of the text under a name
 abbrev pub store_text : Store → List ℕ → Option (List ℕ)
 store_text s name = text_in s.texts name
 
+-- how many of its calls failed
 abbrev pub store_faults : Store → ℕ
 store_faults s = s.fault_count
 
+-- how many disks came back with a fault
 abbrev pub store_disk_faults : Store → ℕ
 store_disk_faults s = s.disk_fault_count
 

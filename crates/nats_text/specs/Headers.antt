@@ -14,6 +14,7 @@ pub record HeaderBlock : Type 0 where
   pub status : Option (List ℕ)
   pub pairs : List Pair
 
+-- neither a status nor a pair
 abbrev pub no_headers : HeaderBlock
 no_headers = record { status = None; pairs = [] }
 
@@ -64,6 +65,7 @@ is_header_value bs = is_line_text bs && bytes_eq (trimmed bs) bs
 abbrev pub legal : List ℕ → List ℕ → Bool
 legal name value = is_header_name name && is_header_value value
 
+-- a pair that headers may have
 abbrev pub is_legal_pair : Pair → Bool
 is_legal_pair pair = legal pair.name pair.value
 
@@ -104,9 +106,11 @@ with_pair name value block = record block { pairs = block.pairs ++ record { name
 
 -- ---- the bytes of a block
 
+-- the end of a line, CR LF
 abbrev pub crlf : List ℕ
 crlf = 13 ∷ 10 ∷ []
 
+-- what each block begins with, `NATS/1.0`
 abbrev pub version : List ℕ
 version = codes "NATS/1.0"
 
@@ -161,6 +165,7 @@ pair_line pair = pair.name ++ 58 ∷ 32 ∷ pair.value ++ crlf
 abbrev pub lines_of : Option (List ℕ) → List Pair → List ℕ
 lines_of status pairs = first_text status ++ crlf ++ flat_map pair_line pairs ++ crlf
 
+-- the lines of these headers
 abbrev pub block_lines : HeaderBlock → List ℕ
 block_lines block = lines_of block.status block.pairs
 
@@ -245,6 +250,7 @@ with_status None read = Err 0
 with_status (Some status) (Ok pairs) = Ok (record { status = status; pairs = pairs })
 with_status (Some status) (Err place) = Err place
 
+-- the headers of the lines of a block, the last of which is what stands behind the last LF, or the place of the first bad line
 abbrev pub read_lines : List (List ℕ) → Result HeaderBlock ℕ
 read_lines [] = Err 0
 read_lines (line ∷ []) = Err 0

@@ -16,6 +16,7 @@ MatchesItselfAlone = (subject : List ℕ) (ts : List (List ℕ)) → IsTrue (is_
 abbrev pub OverlapIsMet : Type 0
 OverlapIsMet = (a b : List ℕ) → IsTrue (overlap a b) ↔ Overlap a b
 
+-- patterns overlap either way round
 abbrev pub OverlapIsSymmetric : Type 0
 OverlapIsSymmetric = (a b : List ℕ) → overlap a b ≡ overlap b a
 
@@ -23,9 +24,11 @@ OverlapIsSymmetric = (a b : List ℕ) → overlap a b ≡ overlap b a
 abbrev pub WithinIsKept : Type 0
 WithinIsKept = (a b : List ℕ) → IsTrue (is_within a b) ↔ IsWithin a b
 
+-- each pattern is within itself
 abbrev pub WithinIsReflexive : Type 0
 WithinIsReflexive = (a : List ℕ) → IsTrue (is_within a a)
 
+-- a pattern within one that is within a third is within the third
 abbrev pub WithinIsTransitive : Type 0
 WithinIsTransitive = (a b c : List ℕ) → IsTrue (is_within a b) → IsTrue (is_within b c) → IsTrue (is_within a c)
 
@@ -49,8 +52,10 @@ ReadsWhatIsWritten = (block : HeaderBlock) → IsTrue (is_header_block block) �
 abbrev pub SameHeadersAreEqual : Type 0
 SameHeadersAreEqual = (a b : HeaderBlock) → IsTrue (same_headers a b) ↔ (a ≡ b)
 
+-- `==` of messages is the equality of what contracts see
 abbrev pub SameMessagesAreEqual : Type 0
 SameMessagesAreEqual = (a b : Message) → IsTrue (same_message a b) ↔ (a ≡ b)
 
+-- the same of parcels
 abbrev pub SameParcelsAreEqual : Type 0
 SameParcelsAreEqual = (a b : Parcel) → IsTrue (same_parcel a b) ↔ (a ≡ b)

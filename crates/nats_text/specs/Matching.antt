@@ -32,6 +32,7 @@ overlap_tokens [] (q ∷ qs) = false
 overlap_tokens (p ∷ ps) [] = false
 overlap_tokens (p ∷ ps) (q ∷ qs) = is_tail p ps || is_tail q qs || (meets p q && overlap_tokens ps qs)
 
+-- two patterns overlap, by their tokens
 abbrev pub overlap : List ℕ → List ℕ → Bool
 overlap a b = overlap_tokens (tokens a) (tokens b)
 
@@ -44,6 +45,7 @@ within_tokens [] (q ∷ qs) = false
 within_tokens (p ∷ ps) [] = false
 within_tokens (p ∷ ps) (q ∷ qs) = is_tail q qs || (not (is_tail p ps) && (bytes_eq q star || bytes_eq q p) && within_tokens ps qs)
 
+-- a pattern is within another one, by their tokens
 abbrev pub is_within : List ℕ → List ℕ → Bool
 is_within a b = within_tokens (tokens a) (tokens b)
 

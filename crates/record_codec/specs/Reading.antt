@@ -54,12 +54,15 @@ legal_at legal bytes = do
   text ← text_at bytes
   if legal text.0 then Ok text else Err (length bytes)
 
+-- a name
 abbrev pub name_at : List ℕ → Reading (List ℕ)
 name_at = legal_at is_name
 
+-- a subject
 abbrev pub subject_at : List ℕ → Reading (List ℕ)
 subject_at = legal_at is_subject
 
+-- a pattern
 abbrev pub pattern_at : List ℕ → Reading (List ℕ)
 pattern_at = legal_at is_pattern
 
@@ -102,12 +105,14 @@ option_at item (suc zero ∷ rest) = do
   Ok (Some x.0, x.1)
 option_at item (suc (suc b) ∷ rest) = Err (suc (length rest))
 
+-- the source and the destination of a transform
 unfoldable pub mapping_at : List ℕ → Reading Mapping
 mapping_at bytes = do
   src ← text_at bytes
   dest ← text_at src.1
   Ok (record { src = src.0; dest = dest.0 }, dest.1)
 
+-- where a copy starts: a number or a moment
 unfoldable pub start_at : List ℕ → Reading Start
 start_at [] = Err 0
 start_at (zero ∷ rest) = do
@@ -118,6 +123,7 @@ start_at (suc zero ∷ rest) = do
   Ok (Time moment.0, moment.1)
 start_at (suc (suc b) ∷ rest) = Err (suc (length rest))
 
+-- an origin: its node, stream, start, filter and transforms
 unfoldable pub origin_at : List ℕ → Reading Origin
 origin_at bytes = do
   node ← option_at name_at bytes
@@ -127,12 +133,14 @@ origin_at bytes = do
   maps ← list_at mapping_at filter.1
   Ok (record { node = node.0; stream = stream.0; start = start.0; filter = filter.0; maps = maps.0 }, maps.1)
 
+-- what a full stream does
 unfoldable pub discard_at : List ℕ → Reading Discard
 discard_at [] = Err 0
 discard_at (zero ∷ rest) = Ok (Old, rest)
 discard_at (suc zero ∷ rest) = Ok (New, rest)
 discard_at (suc (suc b) ∷ rest) = Err (suc (length rest))
 
+-- what a stream copies
 unfoldable pub copies_at : List ℕ → Reading Copies
 copies_at [] = Err 0
 copies_at (zero ∷ rest) = Ok (Nothing, rest)
@@ -144,6 +152,7 @@ copies_at (suc (suc zero) ∷ rest) = do
   Ok (Sources origins.0, origins.1)
 copies_at (suc (suc (suc b)) ∷ rest) = Err (suc (length rest))
 
+-- a configuration, member by member
 unfoldable pub config_at : List ℕ → Reading Config
 config_at bytes = do
   name ← name_at bytes
@@ -174,12 +183,14 @@ config_at bytes = do
     copies.1,
   )
 
+-- the index of a source and a mark
 unfoldable pub mark_at : List ℕ → Reading Mark
 mark_at bytes = do
   index ← u32_at bytes
   seq ← u64_at index.1
   Ok (record { index = index.0; seq = seq.0 }, seq.1)
 
+-- an entry that puts a message
 unfoldable pub put_at : List ℕ → Reading Entry
 put_at bytes = do
   seq ← u64_at bytes
@@ -190,22 +201,26 @@ put_at bytes = do
   payload ← text_at headers.1
   Ok (Put seq.0 (record { subject = subject.0; headers = headers.0; payload = payload.0; time = time.0 }) mark.0, payload.1)
 
+-- an entry that deletes a message
 unfoldable pub del_at : List ℕ → Reading Entry
 del_at bytes = do
   seq ← u64_at bytes
   Ok (Del seq.0, seq.1)
 
+-- an entry that purges
 unfoldable pub purge_at : List ℕ → Reading Entry
 purge_at bytes = do
   pattern ← pattern_at bytes
   below ← u64_at pattern.1
   Ok (Purge pattern.0 below.0, below.1)
 
+-- an entry that expires
 unfoldable pub expire_at : List ℕ → Reading Entry
 expire_at bytes = do
   now ← u64_at bytes
   Ok (Expire now.0, now.1)
 
+-- an entry that binds a copy
 unfoldable pub bind_at : List ℕ → Reading Entry
 bind_at bytes = do
   index ← u32_at bytes
@@ -213,6 +228,7 @@ bind_at bytes = do
   start ← u64_at incarnation.1
   Ok (Bind index.0 incarnation.0 start.0, start.1)
 
+-- an entry that changes the limits
 unfoldable pub limits_at : List ℕ → Reading Entry
 limits_at bytes = do
   config ← config_at bytes
@@ -227,17 +243,20 @@ entry_at kind bytes =
     else (if kind == 7 then expire_at bytes
     else (if kind == 8 then bind_at bytes else limits_at bytes))))
 
+-- a record of an opening
 unfoldable pub boot_at : List ℕ → Reading Rec
 boot_at bytes = do
   boot ← u64_at bytes
   Ok (Boot boot.0, boot.1)
 
+-- a record that makes a stream
 unfoldable pub create_at : List ℕ → Reading Rec
 create_at bytes = do
   time ← u64_at bytes
   config ← config_at time.1
   Ok (Create time.0 config.0, config.1)
 
+-- a record that removes a stream
 unfoldable pub remove_at : List ℕ → Reading Rec
 remove_at bytes = do
   name ← name_at bytes

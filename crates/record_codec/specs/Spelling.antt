@@ -52,6 +52,7 @@ unfoldable pub start_text : Start → List ℕ
 start_text (Seq n) = 0 ∷ u64_text n
 start_text (Time moment) = 1 ∷ u64_text moment
 
+-- an origin: its node, stream, start, filter and transforms
 unfoldable pub origin_text : Origin → List ℕ
 origin_text origin =
     option_text text_of origin.node ++ text_of origin.stream ++ start_text origin.start ++ option_text text_of origin.filter ++ list_text mapping_text origin.maps
@@ -67,6 +68,7 @@ copies_text Nothing = 0 ∷ []
 copies_text (Mirror origin) = 1 ∷ origin_text origin
 copies_text (Sources origins) = 2 ∷ list_text origin_text origins
 
+-- a configuration, member by member
 unfoldable pub config_text : Config → List ℕ
 config_text config =
     text_of config.name ++ list_text text_of config.subjects
@@ -77,6 +79,7 @@ config_text config =
 unfoldable pub mark_text : Mark → List ℕ
 mark_text mark = u32_text mark.index ++ u64_text mark.seq
 
+-- a message, its number and its mark
 unfoldable pub put_text : ℕ → Message → Option Mark → List ℕ
 put_text seq message mark =
     u64_text seq ++ u64_text message.time ++ option_text mark_text mark ++ text_of message.subject ++ text_of (written message.headers) ++ text_of message.payload
@@ -109,9 +112,11 @@ spelling (Of name entry) = kind_of entry ∷ (text_of name ++ entry_text entry)
 -- ---- what has bytes: each number is within its width, each text is legal, and no text or list is
 -- longer than a length in four bytes says
 
+-- a number of 4 bytes
 abbrev pub IsIn32 : ℕ → Type 0
 IsIn32 n = n < 2 ^ 32
 
+-- a number of 8 bytes
 abbrev pub IsIn64 : ℕ → Type 0
 IsIn64 n = n < 2 ^ 64
 
@@ -119,12 +124,15 @@ IsIn64 n = n < 2 ^ 64
 abbrev pub IsShort : List ℕ → Type 0
 IsShort bytes = length bytes < 2 ^ 32
 
+-- a name, with fewer than 2^32 bytes
 abbrev pub IsShortName : List ℕ → Type 0
 IsShortName name = IsShort name × IsTrue (is_name name)
 
+-- a pattern, with fewer than 2^32 bytes
 abbrev pub IsShortPattern : List ℕ → Type 0
 IsShortPattern pattern = IsShort pattern × IsTrue (is_pattern pattern)
 
+-- a subject, with fewer than 2^32 bytes
 abbrev pub IsShortSubject : List ℕ → Type 0
 IsShortSubject subject = IsShort subject × IsTrue (is_subject subject)
 
@@ -132,14 +140,17 @@ IsShortSubject subject = IsShort subject × IsTrue (is_subject subject)
 abbrev pub AreFew : {A : Type 0} → (A → Type 0) → List A → Type 0
 AreFew IsItem xs = (length xs < 2 ^ 32) × All IsItem xs
 
+-- a transform that can be spelled
 pub record IsMapping (mapping : Mapping) : Type 0 where
   pub src : IsShort mapping.src
   pub dest : IsShort mapping.dest
 
+-- a start that can be spelled
 abbrev pub IsStart : Start → Type 0
 IsStart (Seq n) = IsIn64 n
 IsStart (Time moment) = IsIn64 moment
 
+-- an origin that can be spelled
 pub record IsOrigin (origin : Origin) : Type 0 where
   pub node : IfSome origin.node IsShortName
   pub stream : IsShortName origin.stream
@@ -147,11 +158,13 @@ pub record IsOrigin (origin : Origin) : Type 0 where
   pub filter : IfSome origin.filter IsShortPattern
   pub maps : AreFew IsMapping origin.maps
 
+-- copies that can be spelled
 abbrev pub AreCopies : Copies → Type 0
 AreCopies Nothing = Unit {0}
 AreCopies (Mirror origin) = IsOrigin origin
 AreCopies (Sources origins) = AreFew IsOrigin origins
 
+-- a configuration that can be spelled
 pub record IsConfig (config : Config) : Type 0 where
   pub name : IsShortName config.name
   pub subjects : AreFew IsShortPattern config.subjects
@@ -164,10 +177,12 @@ pub record IsConfig (config : Config) : Type 0 where
   pub transform : IfSome config.transform IsMapping
   pub copies : AreCopies config.copies
 
+-- a mark that can be spelled
 pub record IsMark (mark : Mark) : Type 0 where
   pub index : IsIn32 mark.index
   pub seq : IsIn64 mark.seq
 
+-- a message, its number and its mark that can be spelled
 pub record IsPut (seq : ℕ) (message : Message) (mark : Option Mark) : Type 0 where
   pub number : IsIn64 seq
   pub time : IsIn64 message.time
@@ -178,11 +193,13 @@ pub record IsPut (seq : ℕ) (message : Message) (mark : Option Mark) : Type 0 w
   pub headers : read_block (written message.headers) ≡ Ok message.headers
   pub payload : IsShort message.payload
 
+-- the numbers of a Bind that can be spelled
 pub record IsBind (index incarnation start : ℕ) : Type 0 where
   pub number : IsIn32 index
   pub creation : IsIn64 incarnation
   pub first : IsIn64 start
 
+-- an entry that can be spelled
 abbrev pub IsEntry : Entry → Type 0
 IsEntry (Put seq message mark) = IsPut seq message mark
 IsEntry (Del seq) = IsIn64 seq

@@ -32,6 +32,7 @@ pub record Named : Type 0 where
 abbrev pub unnamed : Named
 unnamed = record { made = []; stands = false }
 
+-- a stream whose history has one entry more
 abbrev pub with_change : Entry → Made → Made
 with_change e m = record { created = m.created; history = with_entry m.history e }
 
@@ -61,6 +62,7 @@ named log name = named_after name unnamed log
 abbrev pub incarnation : List Rec → List ℕ → ℕ
 incarnation log name = length (named log name).made
 
+-- the stream of this incarnation, the first of which is 1
 abbrev pub by_incarnation : List Made → ℕ → Option Made
 by_incarnation ms zero = None
 by_incarnation ms (suc i) = slice_get ms i

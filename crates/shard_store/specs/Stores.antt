@@ -109,6 +109,7 @@ pub record StoreHolds (log : List Rec) (a : List ℕ) (b : Option (List ℕ)) : 
   pub spare_whole : IsWhole spare
   pub stands : IsLogOf log (bodies_of main spare)
 
+-- neither disk has more bytes than an area may have
 abbrev pub AreShort : List ℕ → Option (List ℕ) → Type 0
 AreShort a None = length a ≤ max_area
 AreShort a (Some b) = (length a ≤ max_area) × (length b ≤ max_area)

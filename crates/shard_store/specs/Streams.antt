@@ -48,6 +48,7 @@ facts_of incarnation m = record {
 abbrev pub IsShown : List Rec → List ℕ → Facts × List Numbered → Type 0
 IsShown log name shown = (m : Made) × (live log name ≡ Some m) × (shown ≡ (facts_of (incarnation log name) m, kept m.history))
 
+-- the name of a stream that is shown
 abbrev pub name_of : Facts × List Numbered → List ℕ
 name_of shown = shown.0.config.name
 

@@ -28,11 +28,13 @@ abbrev pub some_overlap : List (List ℕ) → Bool
 some_overlap [] = false
 some_overlap (pattern ∷ patterns) = list_any (overlap pattern) patterns || some_overlap patterns
 
+-- the stream is a mirror or has sources
 abbrev pub is_copy : Copies → Bool
 is_copy Nothing = false
 is_copy (Mirror origin) = true
 is_copy (Sources origins) = true
 
+-- the stream is a mirror
 abbrev pub is_mirror : Copies → Bool
 is_mirror Nothing = false
 is_mirror (Mirror origin) = true
@@ -53,10 +55,12 @@ has_wrong_window c = (c.window == 0) || (not (c.max_age == 0) && nat_lt c.max_ag
 abbrev pub is_too_great : ℕ → Bool
 is_too_great n = nat_le (2 ^ 63) n
 
+-- the member of a start that is too great
 abbrev pub start_fault : Start → Option (List ℕ)
 start_fault (Seq n) = wrong_if (is_too_great n) (codes "opt_start_seq")
 start_fault (Time moment) = wrong_if (is_too_great moment) (codes "opt_start_time")
 
+-- a full stream drops its oldest messages
 abbrev pub is_old : Discard → Bool
 is_old Old = true
 is_old New = false
@@ -73,6 +77,7 @@ is_wrong_mirror c origin = is_some origin.filter || nat_lt 0 (length origin.maps
 abbrev pub source_fault : Origin → Option (List ℕ)
 source_fault origin = either (start_fault origin.start) (wrong_if (nat_lt 0 (length origin.maps)) (codes "subject_transforms"))
 
+-- the first wrong member of the origins, in their order
 abbrev pub source_faults : List Origin → Option (List ℕ)
 source_faults [] = None
 source_faults (origin ∷ origins) = either (source_fault origin) (source_faults origins)

@@ -34,6 +34,7 @@ abbrev pub binding_at : ℕ → List Binding → Option BoundTo
 binding_at index [] = None
 binding_at index (b ∷ bs) = if b.index == index then Some b.to else binding_at index bs
 
+-- what an index is bound to after these entries
 abbrev pub bound : ℕ → List Entry → Option BoundTo
 bound index entries = binding_at index (bindings entries)
 
@@ -73,9 +74,11 @@ abbrev pub start_of : Option BoundTo → Option Origin → ℕ
 start_of bound None = 1
 start_of bound (Some origin) = start_by bound origin.start
 
+-- where the copy of an index starts, after a history
 abbrev pub copy_start : ℕ → History → ℕ
 copy_start index h = start_of (bound index h.entries) (origin_named index (stands h).limits.copies)
 
+-- the mark, or this number where there is none
 abbrev pub mark_or : Option ℕ → ℕ → ℕ
 mark_or None number = number
 mark_or (Some mark) number = mark

@@ -77,6 +77,7 @@ abbrev pub sent_id : Message → Option Mark → Option (List ℕ)
 sent_id message None = first_value (codes "Nats-Msg-Id") message.headers
 sent_id message (Some mark) = None
 
+-- the identifier under which a client sent the message of an entry
 abbrev pub id_of : Entry → Option (List ℕ)
 id_of (Put number message mark) = sent_id message mark
 id_of (Del number) = None

@@ -10,6 +10,7 @@ use Rattle.stream_fold.specs.declared.entry.Entry.TheVariants.{Put, Del, Purge, 
 use Rattle.stream_fold.specs.declared.entry.Mark.{Mark}
 use Rattle.stream_fold.specs.declared.entry.Numbered.{Numbered}
 
+-- a stream: the configuration of its creation, and its entries, the oldest first
 pub record History : Type 0 where
   pub config : Config
   pub entries : List Entry
@@ -79,6 +80,7 @@ pub record Folded : Type 0 where
   pub limits : Config
   pub rows : List Numbered
 
+-- the second message has the subject of the first
 abbrev pub has_subject_of : Numbered → Numbered → Bool
 has_subject_of row other = bytes_eq other.message.subject row.message.subject
 
@@ -91,6 +93,7 @@ newest_of_each n (row ∷ rows) = if nat_le n (count_by (has_subject_of row) row
 abbrev pub is_in_limit : ℕ → ℕ → Bool
 is_in_limit limit n = (limit == 0) || nat_le n limit
 
+-- the sum of the sizes of these messages, in bytes
 abbrev pub size_of : List Numbered → ℕ
 size_of rows = sum_by (λ row. size row.message) rows
 
@@ -103,6 +106,7 @@ abbrev pub newest_within : Config → List Numbered → List Numbered
 newest_within c [] = []
 newest_within c (row ∷ rows) = if are_within c (row ∷ rows) then row ∷ rows else newest_within c rows
 
+-- of each subject the newest so many; 0 means no limit
 abbrev pub newest_of_subjects : ℕ → List Numbered → List Numbered
 newest_of_subjects most rows = if most == 0 then rows else newest_of_each most rows
 
@@ -110,9 +114,11 @@ newest_of_subjects most rows = if most == 0 then rows else newest_of_each most r
 abbrev pub limited : Config → List Numbered → List Numbered
 limited c rows = newest_within c (newest_of_subjects c.max_per_subject rows)
 
+-- a purge takes it: its subject matches, and its number is below
 abbrev pub is_purged : List ℕ → ℕ → Numbered → Bool
 is_purged pattern below row = nat_lt row.seq below && matches pattern row.message.subject
 
+-- an expiry takes it: it is as old as the limit on age says
 abbrev pub is_expired : ℕ → ℕ → Numbered → Bool
 is_expired max_age now row = not (max_age == 0) && nat_le (row.message.time + max_age) now
 
@@ -134,9 +140,11 @@ limits_after c (Expire now) = c
 limits_after c (Bind index incarnation start) = c
 limits_after c (Limits config) = config
 
+-- the messages after an entry, the limits applied
 abbrev pub rows_after : Config → Entry → List Numbered → List Numbered
 rows_after c e rows = limited (limits_after c e) (changed_rows c e rows)
 
+-- the configuration and the messages after an entry
 abbrev pub after : Folded → Entry → Folded
 after k e = record { limits = limits_after k.limits e; rows = rows_after k.limits e k.rows }
 

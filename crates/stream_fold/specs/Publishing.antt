@@ -23,6 +23,7 @@ use Rattle.stream_fold.specs.Histories.{History, either, last, clock, stands, ke
 
 -- ---- repeats
 
+-- there is a value, and it is this one
 abbrev pub is_value : List ℕ → Option (List ℕ) → Bool
 is_value wanted None = false
 is_value wanted (Some value) = bytes_eq value wanted
@@ -56,6 +57,7 @@ in_window window moment (Some row) = if nat_lt moment (row.message.time + window
 abbrev pub dup : History → List ℕ → ℕ → Option ℕ
 dup h id now = in_window h.config.window (max now (clock h.entries)) (latest_sent id h.entries)
 
+-- the same for an identifier that may not be there
 abbrev pub dup_of : History → Option (List ℕ) → ℕ → Option ℕ
 dup_of h None now = None
 dup_of h (Some id) now = dup h id now
@@ -67,6 +69,7 @@ abbrev pub is_no_number : Option (List ℕ) → Bool
 is_no_number None = false
 is_no_number (Some value) = is_none (number_of value)
 
+-- there is a number, and it is another one
 abbrev pub is_other : ℕ → Option ℕ → Bool
 is_other n None = false
 is_other n (Some m) = not (m == n)
@@ -95,6 +98,7 @@ abbrev pub last_of : List ℕ → List Numbered → Option ℕ
 last_of subject [] = None
 last_of subject (row ∷ rows) = either (last_of subject rows) (if bytes_eq row.message.subject subject then Some row.seq else None)
 
+-- the number, or 0 where there is none
 abbrev pub number_or_0 : Option ℕ → ℕ
 number_or_0 None = 0
 number_or_0 (Some n) = n
@@ -111,6 +115,7 @@ content_size m = length (written m.headers) + length m.payload
 abbrev pub rows_with : Config → Message → List Numbered → ℕ → List Numbered
 rows_with c m rows last = newest_of_subjects c.max_per_subject (rows ++ (record { seq = last + 1; message = m }) ∷ [])
 
+-- a full stream takes no new message
 abbrev pub is_new : Discard → Bool
 is_new Old = false
 is_new New = true
@@ -119,6 +124,7 @@ is_new New = true
 abbrev pub is_full : Config → List Numbered → Bool
 is_full c rows = is_new c.discard && not (are_within c rows)
 
+-- the refusal of a full stream, with the count and the bytes that would stand
 abbrev pub full : List Numbered → Refusal
 full rows = Full (length rows) (capped (size_of rows))
 
@@ -131,6 +137,7 @@ later_refusal c m rows last =
     else (if last == 2 ^ 63 - 1 then Some SeqEnd
     else (if is_full c (rows_with c m rows last) then Some (full (rows_with c m rows last)) else None))))
 
+-- a bad header, and behind it another stream than the one expected
 abbrev pub header_refusal : Config → Message → Option (List ℕ) → Option Refusal
 header_refusal c m (Some name) = Some (BadHeader name)
 header_refusal c m None = if is_other_text c.name (first_value (codes "Nats-Expected-Stream") m.headers) then Some WrongStream else None
@@ -139,14 +146,17 @@ header_refusal c m None = if is_other_text c.name (first_value (codes "Nats-Expe
 abbrev pub earlier_refusal : Config → Message → Option Refusal
 earlier_refusal c m = if is_mirror c.copies then Some IsMirror else header_refusal c m (bad_header m)
 
+-- new, unless it is refused
 abbrev pub fresh_or : Option Refusal → Result Verdict Refusal
 fresh_or None = Ok Fresh
 fresh_or (Some refusal) = Err refusal
 
+-- a repeat, and else new unless it is refused
 abbrev pub repeat_or : Option ℕ → Option Refusal → Result Verdict Refusal
 repeat_or None refusal = fresh_or refusal
 repeat_or (Some number) refusal = Ok (Duplicate number)
 
+-- an earlier refusal, else a repeat, else a later refusal, else new
 abbrev pub verdict_behind : Option Refusal → Option ℕ → Option Refusal → Result Verdict Refusal
 verdict_behind None repeated later = repeat_or repeated later
 verdict_behind (Some refusal) repeated later = Err refusal
@@ -169,6 +179,7 @@ UnlessNoMemory SeqEnd fact = fact
 UnlessNoMemory (Full count bytes) fact = fact
 UnlessNoMemory NoMemory fact = Unit {0}
 
+-- what is answered is the verdict, unless memory ran out
 abbrev pub GivesVerdict : Result Verdict Refusal → Result Verdict Refusal → Type 0
 GivesVerdict (Ok answer) verdict = verdict ≡ Ok answer
 GivesVerdict (Err refusal) verdict = UnlessNoMemory refusal (verdict ≡ Err refusal)

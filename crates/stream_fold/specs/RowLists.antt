@@ -34,6 +34,7 @@ abbrev pub EachRow : (Numbered → Type 0) → List Numbered → Type 0
 EachRow P [] = ⊤
 EachRow P (row ∷ rows) = P row × EachRow P rows
 
+-- the numbers of these messages
 abbrev pub seqs : List Numbered → List ℕ
 seqs rows = map (λ row. row.seq) rows
 

@@ -14,6 +14,3 @@ mod words;
 pub use fault::{LineFault, ScriptKind};
 pub use forms::read_line;
 pub use line::{Changes, Line};
-
-#[cfg(test)]
-mod tests;

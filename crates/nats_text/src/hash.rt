@@ -14,20 +14,3 @@ pub fn fnv1a(bytes: &[u8]) -> u32
         |hash, byte| (hash ^ u32::from(*byte)).wrapping_mul(PRIME),
     )
 }
-
-#[cfg(test)]
-mod tests {
-    use super::*;
-
-    // Vectors that the authors of the hash publish.
-    #[test]
-    fn hashes_bytes(rt: HostRuntime) {
-        for (text, want) in [
-            ("", 0x811c_9dc5),
-            ("a", 3_826_002_220),
-            ("foobar", 0xbf9c_f968),
-        ] {
-            assert_eq!(rt; fnv1a(text.as_bytes()), want, "{text}");
-        }
-    }
-}

@@ -292,6 +292,3 @@ fn is_named(name: &[u8], pair: &Pair) -> bool
 {
     pair.name.as_slice() == name
 }
-
-#[cfg(test)]
-mod tests;

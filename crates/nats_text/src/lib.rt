@@ -22,8 +22,6 @@ mod room;
 mod scan;
 mod split;
 mod subject;
-#[cfg(test)]
-mod tests;
 
 pub use fault::{NoMemory, TextFault};
 pub use hash::fnv1a;

@@ -133,6 +133,3 @@ fn is_tail(part: &[u8]) -> bool
 {
     part == b">".as_slice()
 }
-
-#[cfg(test)]
-mod tests;

@@ -103,6 +103,3 @@ pub enum Start {
     Seq(u64),
     Time(u64),
 }
-
-#[cfg(test)]
-mod tests;

@@ -39,6 +39,3 @@ fn is_digit(byte: u8) -> bool
 {
     b'0' <= byte && byte <= b'9'
 }
-
-#[cfg(test)]
-mod tests;

@@ -15,6 +15,3 @@ pub use decoding::decode;
 pub use encoding::encode;
 pub use fault::RecFault;
 pub use records::Rec;
-
-#[cfg(test)]
-mod tests;

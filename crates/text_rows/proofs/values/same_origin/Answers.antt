@@ -2,7 +2,7 @@ use Rattle.std.proofs.Common.{◌≡◌, Decides, rules, refl}
 use Rattle.std.proofs.lemmas.Slice.Eq.{slice_eq-Decides}
 use Rattle.nats_text.specs.declared.origin.Mapping.{Mapping}
 use Rattle.nats_text.specs.contracts.origin.MappingPartialEq.TheImpl as mapping
-use Rattle.nats_text.proofs.tests.values.same_origin.Goals as goal
+use Rattle.text_rows.proofs.values.same_origin.Goals as goal
 
 mapping_eq : (a b : Mapping) → Decides (mapping.eq-value.it a b) (a ≡ b)
 mapping_eq a b = search rules

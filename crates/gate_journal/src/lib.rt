@@ -14,6 +14,3 @@ mod walk;
 pub use area::{Area, Ending};
 pub use fault::{AppendFault, LoadFault};
 pub use journal::Journal;
-
-#[cfg(test)]
-mod tests;

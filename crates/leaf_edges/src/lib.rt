@@ -32,6 +32,3 @@ pub use sink::Sink;
 pub use source::Source;
 pub use standard::{StdErr, StdIn, StdOut};
 pub use sys_clock::SysClock;
-
-#[cfg(test)]
-mod tests;

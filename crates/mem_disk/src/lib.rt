@@ -18,6 +18,3 @@ pub use disk::MemDisk;
 pub use fate::Fate;
 pub use files::MemFiles;
 pub use named::{NamedDisk, NamedText};
-
-#[cfg(test)]
-mod tests;

@@ -14,6 +14,3 @@ mod replay;
 pub use facts::{CopyFact, Facts};
 pub use fault::{Part, StoreFault};
 pub use read::read_streams;
-
-#[cfg(test)]
-mod tests;

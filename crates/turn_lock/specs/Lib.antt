@@ -1,0 +1,5 @@
+pub mod Own
+pub mod Turns
+pub mod Shares
+pub mod Seats
+pub mod Lending

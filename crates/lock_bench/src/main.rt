@@ -2,7 +2,7 @@
 //! and how many microseconds each turn sleeps with the value. It prints how many turns were taken.
 #![tactic(auto)]
 
-ghost use Rattle.std.specs.Prelude.{◌≡◌, ◌+◌, ◌<◌, ◌^◌, length};
+ghost use Rattle.std.specs.Prelude.{◌≡◌, length};
 ghost use Rattle.turn_lock.specs.Shares.{IsOf, one};
 
 use std::env;

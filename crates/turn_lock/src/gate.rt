@@ -1,6 +1,6 @@
 //! The table of a lock, and the steps on it. Its first word is the next ticket and its second the
 //! number that is served, and its one slot holds the value.
-ghost use Rattle.std.specs.Prelude.{◌≡◌, ◌+◌, ◌<◌, ◌^◌, ℕ, List, [], ◌∷◌, ◌++◌, None, Some, length, MatchBool};
+ghost use Rattle.std.specs.Prelude.{◌≡◌, ◌+◌, ◌<◌, ◌^◌, [], ◌∷◌, ◌++◌, None, Some, length, MatchBool};
 ghost use Rattle.atomic_table.specs.Table.{rest};
 ghost use Rattle.turn_lock.specs.Turns.{Lends, drawn, gave};
 

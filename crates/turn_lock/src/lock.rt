@@ -1,5 +1,5 @@
 //! The lock as its users see it.
-ghost use Rattle.std.specs.Prelude.{map, ◌≡◌, ℕ, ◌+◌, ◌<◌, ◌^◌, List, [], ◌∷◌, ◌++◌, Some, length, slice_get};
+ghost use Rattle.std.specs.Prelude.{map, ◌≡◌, ℕ, ◌+◌, ◌<◌, ◌^◌, [], ◌∷◌, ◌++◌, Some, length, slice_get};
 ghost use Rattle.turn_lock.specs.Own.{Owns, RisesFrom, Begins, merged, longer};
 ghost use Rattle.turn_lock.specs.Shares.{IsOf, IsAll, half, both};
 

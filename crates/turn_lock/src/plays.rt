@@ -1,5 +1,5 @@
 //! The rule of a lock's table, and what each step on it tells.
-ghost use Rattle.turn_lock.specs.Turns.{Holds, made, Draws, Looks, Serves, Recalls, Fetches, Fills, dealt_left, dealt_right, half_left, half_right, joined, spent};
+ghost use Rattle.turn_lock.specs.Turns.{Draws, Looks, Serves, Recalls, Fetches, Fills, dealt_left, dealt_right, half_left, half_right, joined, spent};
 
 use crate::Kept;
 use crate::rule::{Origin, View};

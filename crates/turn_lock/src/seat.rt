@@ -50,7 +50,7 @@ impl<V: Kept> Model for Turn<V> {
     ghost invariant = { λ s. IsHolding s.ticket s.inner.me × (s.ticket + 1 < 2 ^ 64) };
 }
 
-/// The value, lent for one turn, and the seat that it is out with.
+/// The value, lent for one turn, and the seat whose turn it is. `give` takes both back.
 pub struct Held<V: Kept> {
     pub value: V,
     pub turn: Turn<V>,

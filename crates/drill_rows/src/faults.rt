@@ -1,5 +1,5 @@
 use crate::run::{Want, check_with};
-use leaf_edges::{MemSink, MemSource};
+use leaf_edges::{EdgeError, MemSink, MemSource, Source};
 use leafd_cli::Status;
 use leafd_script::ScriptKind;
 use nats_text::Bytes;
@@ -51,6 +51,33 @@ fn an_input_that_fails(rt: HostRuntime) -> Result<(), Fail> {
         check_with(&rt, alloc, &["drill"], input, out, &want)?;
     }
     Ok(())
+}
+
+/// An input for which there is no memory.
+#[derive(Drop)]
+struct Starved;
+
+impl Source for Starved {
+    ghost use Rattle.std.specs.Prelude.{None};
+
+    ghost left = { λ _. None };
+
+    ghost faults = { λ _. 0 };
+
+    fn read(&mut self, _buf: &mut [u8]) -> Result<usize, EdgeError> {
+        Err(EdgeError::NoMemory)
+    }
+}
+
+#[test]
+fn an_input_without_memory(rt: HostRuntime) -> Result<(), Fail> {
+    let out = MemSink::new(Vec::new(rt.alloc()), Vec::new(rt.alloc()));
+    let want = Want {
+        number: 6,
+        out: b"",
+        err: b"leafd: out of memory\n",
+    };
+    check_with(&rt, rt.alloc(), &["drill"], Starved, out, &want)
 }
 
 #[test]

@@ -15,11 +15,13 @@ fn joined(alloc: Global, front: &[u8], byte: u8, count: usize) -> Result<Vec<u8>
 #[test]
 fn a_script_has_a_longest_length(rt: HostRuntime) -> Result<(), Fail> {
     let alloc = rt.alloc();
-    let longest = vec![in alloc; b'\n'; LONGEST]?;
+    // All empty lines but the last.
+    let longest = joined(alloc, &[], b'\n', LONGEST - 1)?;
+    let longest = joined(alloc, &longest, b'x', 1)?;
     let want = Want {
-        number: 0,
+        number: 1,
         out: b"",
-        err: b"",
+        err: b"leafd: line 16777216: BadLine\n",
     };
     check(&rt, rt.alloc(), &longest, &want)?;
     let longer = vec![in alloc; b'\n'; LONGEST + 1]?;

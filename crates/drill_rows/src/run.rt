@@ -1,4 +1,4 @@
-use leaf_edges::{MemSink, MemSource};
+use leaf_edges::{MemSink, MemSource, Source};
 use leafd_cli::leafd_run;
 use mem_disk::{MemFiles, SetClock};
 use std::alloc::Global;
@@ -22,11 +22,11 @@ pub fn check(rt: &impl Abort, alloc: Global, script: &[u8], want: &Want<'_>) -> 
 }
 
 /// Runs the command of these words.
-pub fn check_with(
+pub fn check_with<S: Source>(
     rt: &impl Abort,
     alloc: Global,
     words: &[&str],
-    input: MemSource,
+    input: S,
     out: MemSink,
     want: &Want<'_>,
 ) -> Result<(), Fail> {

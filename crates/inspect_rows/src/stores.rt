@@ -1,6 +1,8 @@
 use crate::run::{Want, check_files, put_file};
 use leaf_edges::{DirFiles, Files, MemSink};
 use mem_disk::MemFiles;
+use std::fs::{File, Permissions};
+use std::os::unix::fs::PermissionsExt;
 use std::path::PathBuf;
 use std::test::Fail;
 use std::{env, fs, process};
@@ -106,6 +108,23 @@ fn fresh_folder(rt: &HostRuntime) -> Result<PathBuf, Fail> {
     Ok(folder)
 }
 
+/// Sets who may write the folder `store` and its files: their owner, or nobody.
+fn let_write(rt: &HostRuntime, folder: &PathBuf, may_write: bool) -> Result<(), Fail> {
+    let (for_folder, for_file) = if may_write {
+        (0o755, 0o644)
+    } else {
+        (0o555, 0o444)
+    };
+    for (name, _bytes) in FILES {
+        let file = folder.join(rt.alloc(), str::from_utf8(name)?)?;
+        fs::set_permissions(rt, file.as_path(), Permissions::from_mode(for_file))?;
+    }
+    let store = folder.join(rt.alloc(), "store")?;
+    fs::set_permissions(rt, store.as_path(), Permissions::from_mode(for_folder))?;
+    Ok(())
+}
+
+// The gate runs tests as a user who may not write what nobody may.
 #[test]
 fn a_store_in_a_folder_is_printed(rt: HostRuntime) -> Result<(), Fail> {
     let folder = fresh_folder(&rt)?;
@@ -114,8 +133,36 @@ fn a_store_in_a_folder_is_printed(rt: HostRuntime) -> Result<(), Fail> {
     for (name, bytes) in FILES {
         put_file(&mut files, name, bytes)?;
     }
+    let_write(&rt, &folder, false)?;
     let out = MemSink::new(Vec::new(rt.alloc()), Vec::new(rt.alloc()));
     check_files(&rt, rt.alloc(), &mut files, out, &WANT)?;
+    let_write(&rt, &folder, true)?;
     fs::remove_dir_all(&rt, folder.as_path())?;
+    Ok(())
+}
+
+// A file with a hole of one byte more than the greatest length.
+#[test]
+fn a_journal_that_is_too_long_is_told(rt: HostRuntime) -> Result<(), Fail> {
+    let folder = fresh_folder(&rt)?;
+    make_hole(&rt, &folder, (1 << 40) + 1)?;
+    let text = String::from_str(rt.alloc(), folder.as_path().as_os_str())?;
+    let mut files = DirFiles::new(rt, text);
+    let out = MemSink::new(Vec::new(rt.alloc()), Vec::new(rt.alloc()));
+    let want = Want {
+        number: 12,
+        out: b"",
+        err: b"leafd: journal too long shard-0.a\n",
+    };
+    check_files(&rt, rt.alloc(), &mut files, out, &want)?;
+    fs::remove_dir_all(&rt, folder.as_path())?;
+    Ok(())
+}
+
+/// Makes the first disk of shard 0, of so many bytes, none of which is written.
+fn make_hole(rt: &HostRuntime, folder: &PathBuf, len: u64) -> Result<(), Fail> {
+    let path = folder.join(rt.alloc(), "store/shard-0.a")?;
+    let file = File::create(rt, path.as_path())?;
+    file.set_len(len)?;
     Ok(())
 }

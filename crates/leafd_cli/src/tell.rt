@@ -67,6 +67,3 @@ fn pump_pieces<E: Sink>(err: &mut E, pieces: &[&[u8]]) -> Result<(), EdgeError>
     }
     Ok(())
 }
-
-#[cfg(test)]
-mod tests;

@@ -33,7 +33,7 @@ pub record Lock (O : Type 0) : Type 0 where
   pub seats : ℕ
 
 -- a seat: its lock, the opening, the history that it has seen, its own steps with their tickets, and its share
-pub record Standing (S O : Type 0) : Type 0 where
+pub record SeatState (S O : Type 0) : Type 0 where
   pub lock : TableId
   pub opening : Option O
   pub seen : List S
@@ -42,13 +42,13 @@ pub record Standing (S O : Type 0) : Type 0 where
 
 module _ {S O : Type 0} where
   -- the seat is of this lock
-  abbrev pub IsOf : Lock O → Standing S O → Type 0
+  abbrev pub IsOf : Lock O → SeatState S O → Type 0
   IsOf lock seat = (seat.lock ≡ lock.id) × (seat.opening ≡ Some lock.opening)
 
   -- what contracts see of a view
-  abbrev pub standing : TableId → View S O → Standing S O
-  standing id v = record { lock = id; opening = v.opening; seen = v.seen; own = v.own; share = record { parts = v.parts; halvings = v.halvings } }
+  abbrev pub seat_state : TableId → View S O → SeatState S O
+  seat_state id v = record { lock = id; opening = v.opening; seen = v.seen; own = v.own; share = record { parts = v.parts; halvings = v.halvings } }
 
   -- a seat as `new` gives it
-  abbrev pub new_seat : Lock O → Standing S O
+  abbrev pub new_seat : Lock O → SeatState S O
   new_seat lock = record { lock = lock.id; opening = Some lock.opening; seen = []; own = []; share = one }

@@ -1,7 +1,7 @@
 //! A new lock, and its seats.
 ghost use Rattle.std.specs.Prelude.{Some, None, ◌≡◌, ◌<◌, [], length, IfOk, IfErr};
 ghost use Rattle.std.specs.List.{All};
-ghost use Rattle.turn_lock.specs.Shares.{new_seat, standing};
+ghost use Rattle.turn_lock.specs.Shares.{new_seat, seat_state};
 ghost use Rattle.turn_lock.specs.Turns.{made, dealt_left, dealt_right};
 
 use crate::Kept;
@@ -62,7 +62,7 @@ impl<V: Kept> Gate<V> {
         requires rests { (seat.old.me.0.turn ≡ None) × (seat.old.me.0.stage ≡ 0) }
         requires more { 1 < seat.old.me.0.parts }
         ensures left { (seat.new.table_id ≡ seat.old.table_id) × (seat.new.me ≡ (dealt_left seat.old.me.0, seat.old.me.1)) }
-        ensures right { result ≡ standing seat.old.table_id (dealt_right seat.old.me.0) }
+        ensures right { result ≡ seat_state seat.old.table_id (dealt_right seat.old.me.0) }
     {
         let inner = self.table.shared.split_seat::<Deal>(seat);
         Seat { inner }

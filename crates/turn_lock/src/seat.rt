@@ -18,14 +18,14 @@ pub struct Seat<V: Kept> {
 }
 
 impl<V: Kept> Model for Seat<V> {
-    ghost use Rattle.turn_lock.specs.Shares.{Standing};
+    ghost use Rattle.turn_lock.specs.Shares.{SeatState};
 
-    ghost Value = { Standing V.Step V.Opening };
+    ghost Value = { SeatState V.Step V.Opening };
 
-    ghost use Rattle.turn_lock.specs.Shares.{standing};
+    ghost use Rattle.turn_lock.specs.Shares.{seat_state};
     ghost use Rattle.turn_lock.specs.Seats.{IsResting};
 
-    ghost view = { λ s. standing s.inner.table_id s.inner.me.0 };
+    ghost view = { λ s. seat_state s.inner.table_id s.inner.me.0 };
 
     ghost invariant = { λ s. IsResting s.inner.me };
 }
@@ -38,14 +38,14 @@ pub struct Turn<V: Kept> {
 
 impl<V: Kept> Model for Turn<V> {
     ghost use Rattle.std.specs.Prelude.{◌+◌, ◌<◌, ◌^◌};
-    ghost use Rattle.turn_lock.specs.Shares.{Standing};
+    ghost use Rattle.turn_lock.specs.Shares.{SeatState};
 
-    ghost Value = { Standing V.Step V.Opening };
+    ghost Value = { SeatState V.Step V.Opening };
 
-    ghost use Rattle.turn_lock.specs.Shares.{standing};
+    ghost use Rattle.turn_lock.specs.Shares.{seat_state};
     ghost use Rattle.turn_lock.specs.Seats.{IsHolding};
 
-    ghost view = { λ s. standing s.inner.table_id s.inner.me.0 };
+    ghost view = { λ s. seat_state s.inner.table_id s.inner.me.0 };
 
     ghost invariant = { λ s. IsHolding s.ticket s.inner.me × (s.ticket + 1 < 2 ^ 64) };
 }

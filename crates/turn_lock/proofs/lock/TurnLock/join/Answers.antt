@@ -2,7 +2,7 @@ use Rattle.std.proofs.Common.{rules, arith, ◌≡◌, ap, subst, Option}
 use Rattle.atomic_table.specs.Table.{Me}
 use Rattle.turn_lock.specs.declared.rule.View.{View}
 use Rattle.turn_lock.specs.Own.{Begins, longer, shorter}
-use Rattle.turn_lock.specs.Shares.{Standing}
+use Rattle.turn_lock.specs.Shares.{SeatState}
 use Rattle.turn_lock.proofs.Shares.{join_allowed}
 use Rattle.turn_lock.proofs.Steps.{recall_allowed}
 use Rattle.turn_lock.proofs.Owned.{both_begin}
@@ -42,8 +42,8 @@ returns-clause-begins g c =
     let a = c.a.inside.inner.me.0.seen in
     let b = c.b.inside.inner.me.0.seen in
     let short : Begins (shorter a b) (longer a b) = subst (λ (m : Me (Option g.row.V.Denot) (View g.row.V-Step.Denot g.row.V-Opening.Denot)). Begins m.0.shorter m.0.seen) now told in
-    let first : a ≡ c.args.a.seen = ap (λ (s : Standing g.row.V-Step.Denot g.row.V-Opening.Denot). s.seen) c.a.view_is in
-    let second : b ≡ c.args.b.seen = ap (λ (s : Standing g.row.V-Step.Denot g.row.V-Opening.Denot). s.seen) c.b.view_is in
+    let first : a ≡ c.args.a.seen = ap (λ (s : SeatState g.row.V-Step.Denot g.row.V-Opening.Denot). s.seen) c.a.view_is in
+    let second : b ≡ c.args.b.seen = ap (λ (s : SeatState g.row.V-Step.Denot g.row.V-Opening.Denot). s.seen) c.b.view_is in
     rw (same, now, ← first, ← second) (both_begin a b short)
 
 pub returns-clause-rising : goal.returns-clause-rising

@@ -2,7 +2,7 @@ use Rattle.std.proofs.Common.{◌≡◌, ◌+◌, ◌≤◌, ◌-◌, [], length
 use Rattle.std.specs.List.{All}
 use Rattle.std.specs.Vec.{vec_capacity}
 use Rattle.turn_lock.specs.Turns.{made}
-use Rattle.turn_lock.specs.Shares.{standing}
+use Rattle.turn_lock.specs.Shares.{seat_state}
 use Rattle.turn_lock.proofs.lock.TurnLock.new.Given as goal
 
 abbrev pub invariant-loop : goal.invariant-loop
@@ -13,4 +13,4 @@ invariant-loop g l =
     × (l.seats ≤ vec_capacity l.list)
     × (1 ≤ l.counter)
     × (l.counter ≤ l.seats)
-    × All (λ s. s ≡ standing l.gate.table.shared.table_id (made (g.V.Kept.opening l.fn.value) 1 0)) l.list.items
+    × All (λ s. s ≡ seat_state l.gate.table.shared.table_id (made (g.V.Kept.opening l.fn.value) 1 0)) l.list.items

@@ -1,0 +1,7 @@
+mod Destinations
+mod Inbound
+mod Lawful
+mod Parted
+mod Prefixes
+mod Called
+mod Tokens

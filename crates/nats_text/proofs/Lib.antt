@@ -16,3 +16,4 @@ mod Tokens
 mod Trims
 mod Utf8Walks
 mod WritesBlocks
+mod WrittenBlocks

@@ -126,7 +126,7 @@ entry_of-none (b ∷ bs) h = let found = some_some (pair_of (b ∷ bs)) None h i
     none_some : {x : Pair} → None ≡ Some x → ⊥
     none_some e = cc
 
-entry_of-some : (text : List ℕ) (pair : Pair) → entry_of text ≡ Some (Some pair) → pair_of text ≡ Some pair
+pub entry_of-some : (text : List ℕ) (pair : Pair) → entry_of text ≡ Some (Some pair) → pair_of text ≡ Some pair
 entry_of-some [] pair h = absurd (none_some (same_Some None (Some pair) h))
   where
     none_some : {x : Pair} → None ≡ Some x → ⊥
@@ -177,7 +177,7 @@ pub record HasText {E : Type 0} (of_text : List ℕ → Option E) (line : List �
   pub line_is : IsLine line text
   pub entry_is : of_text text ≡ Some entry
 
-has_text : {E : Type 0} (of_text : List ℕ → Option E) (line : List ℕ) (entry : E) → option_and_then of_text (line_text line) ≡ Some entry → is_free 10 line ≡ true → HasText of_text line entry
+pub has_text : {E : Type 0} (of_text : List ℕ → Option E) (line : List ℕ) (entry : E) → option_and_then of_text (line_text line) ≡ Some entry → is_free 10 line ≡ true → HasText of_text line entry
 has_text of_text line entry h free =
     option_and_then_some of_text (line_text line) entry h
     (λ text is found. record { text = text; line_is = line_text-some line text is free; entry_is = found })
@@ -187,7 +187,7 @@ line_bytes : (line text rest : List ℕ) → line ≡ text ++ 13 ∷ [] → line
 line_bytes line text rest e =
     ap (λ xs. xs ++ 10 ∷ rest) e ∙ (append_assoc text (13 ∷ []) (10 ∷ rest) ∙ sym (append_assoc text crlf rest))
 
-end_line : (line : List ℕ) → HasText entry_of line None → line ++ 10 ∷ [] ≡ crlf
+pub end_line : (line : List ℕ) → HasText entry_of line None → line ++ 10 ∷ [] ≡ crlf
 end_line line h =
     ap (λ xs. xs ++ 10 ∷ []) (h.line_is.is ∙ ap (λ xs. xs ++ 13 ∷ []) (entry_of-none h.text h.entry_is))
 

@@ -79,7 +79,7 @@ colon_behind n (b ∷ name) rest h =
     cond-false (eqb b 58) (Some n) (position_from (λ x. eqb x 58) (n + 1) (name ++ 58 ∷ rest)) other
     ∙ (colon_behind (n + 1) name rest parts.1 ∙ ap (λ k. Some k) (omega arith))
 
-pair_text_within : (pair : Pair) (text : List ℕ) → IsPairText pair text → is_legal_pair pair ≡ true → is_line_text text ≡ true
+pub pair_text_within : (pair : Pair) (text : List ℕ) → IsPairText pair text → is_legal_pair pair ≡ true → is_line_text text ≡ true
 pair_text_within pair text h l =
     let parts = and_parts (is_header_name pair.name) (is_header_value pair.value) l in
     let name = list_all-weaker is_header_byte is_line_byte name_within pair.name (and_parts (ltb 0 (length pair.name)) (list_all is_header_byte pair.name) parts.0).1 in

@@ -262,6 +262,20 @@ abbrev pub read_block : List ℕ → Result HeaderBlock ℕ
 read_block [] = Ok no_headers
 read_block (b ∷ bs) = read_lines (pieces 10 (b ∷ bs))
 
+-- the headers that were read are written as these bytes
+abbrev pub is_written_as : List ℕ → Result HeaderBlock ℕ → Bool
+is_written_as bytes (Ok block) = bytes_eq (written block) bytes
+is_written_as bytes (Err place) = false
+
+-- the bytes are a block, and the writer makes them of its headers
+abbrev pub is_written : List ℕ → Bool
+is_written bytes = is_written_as bytes (read_block bytes)
+
+-- the pairs that were read are written as these lines, of which the last is empty
+abbrev pub are_written_as : List ℕ → Result (List Pair) ℕ → Bool
+are_written_as bytes (Ok pairs) = bytes_eq (flat_map pair_line pairs ++ crlf) bytes
+are_written_as bytes (Err place) = false
+
 -- ---- what the functions give
 
 -- a name and a value that references point to

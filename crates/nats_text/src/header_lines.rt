@@ -1,8 +1,8 @@
-ghost use Rattle.std.specs.Prelude.{◌≡◌, ◌<◌, ◌+◌, ◌^◌, ◌==◌, length, IfSome};
+ghost use Rattle.std.specs.Prelude.{◌≡◌, ◌↔◌, ◌<◌, ◌+◌, ◌^◌, ◌==◌, ◌++◌, ◌∷◌, [], ℕ, length, IfSome, IsTrue};
 ghost use Rattle.std.specs.List.{list_all, position_from};
 ghost use Rattle.std.specs.Option.{option_copied, option_map, option_and_then};
 ghost use Rattle.std.specs.Result.{result_err};
-ghost use Rattle.nats_text.specs.Headers.{is_header_name, is_header_byte, is_header_value, is_line_text, is_blank, trimmed, trim_start, trim_end, line_text, status_of, pair_of, entry_of, pair_view, read_pairs, read_block};
+ghost use Rattle.nats_text.specs.Headers.{is_header_name, is_header_byte, is_header_value, is_line_text, is_blank, trimmed, trim_start, trim_end, line_text, status_of, pair_of, entry_of, pair_view, read_pairs, read_block, is_written, are_written_as};
 ghost use Rattle.nats_text.specs.Pieces.{pieces};
 
 use crate::cut;
@@ -95,6 +95,59 @@ fn bad_pair_line(mut place: usize, lines: &[u8]) -> Option<usize>
         rest = behind;
     }
     Some(place)
+}
+
+// Whether a block is what the writer makes of the headers that are read from it. It takes no memory.
+pub(crate) fn is_written(block: &[u8]) -> bool
+    ensures { result ≡ is_written block.now }
+{
+    if block.is_empty() {
+        return true;
+    }
+    // Headers without status and pairs are written as no bytes.
+    if block == b"NATS/1.0\r\n\r\n".as_slice() {
+        return false;
+    }
+    match cut(block, b'\n') {
+        Some((line, lines)) => status_of_line(line).is_some() && are_written(lines),
+        None => false,
+    }
+}
+
+// The same of the lines behind the first.
+fn are_written(lines: &[u8]) -> bool
+    ensures { (place : ℕ) → result ≡ are_written_as lines.now (read_pairs place (pieces 10 lines.now)) }
+{
+    let mut rest = lines;
+    while let Some((line, behind)) = cut(rest, b'\n') {
+        let Some(entry) = entry_of_line(line) else {
+            return false;
+        };
+        let Some((name, value)) = entry else {
+            return behind.is_empty();
+        };
+        if !is_written_line(line, name, value) {
+            return false;
+        }
+        rest = behind;
+    }
+    false
+}
+
+// Whether the line, whose LF is taken off, is written of this pair.
+fn is_written_line(line: &[u8], name: &[u8], value: &[u8]) -> bool
+    ensures { IsTrue result ↔ (line.now ≡ name.now ++ 58 ∷ 32 ∷ value.now ++ 13 ∷ []) }
+{
+    let Some(behind_name) = line.strip_prefix(name) else {
+        return false;
+    };
+    let Some(behind_colon) = behind_name.strip_prefix(b": ".as_slice()) else {
+        return false;
+    };
+    let Some(end) = behind_colon.strip_prefix(value) else {
+        return false;
+    };
+    end == b"\r".as_slice()
 }
 
 fn place_of_colon(text: &[u8]) -> Option<usize>

@@ -2,10 +2,10 @@ ghost use Rattle.std.specs.Prelude.{◌≡◌, ◌<◌, ◌≤◌, ◌+◌, ◌-
 ghost use Rattle.std.specs.Option.{option_copied};
 ghost use Rattle.std.specs.Result.{is_ok};
 ghost use Rattle.nats_text.specs.Pieces.{pieces};
-ghost use Rattle.nats_text.specs.Headers.{HeaderBlock, IsBlock, IsFirstBadLine, is_header_block, no_headers, has_none, legal, written, first_value, has_name, with_pair, with_value, without, other_pairs, is_named, Reads, IsFaultOf, read_block, read_pairs};
+ghost use Rattle.nats_text.specs.Headers.{HeaderBlock, IsBlock, IsFirstBadLine, is_header_block, no_headers, has_none, legal, written, first_value, has_name, with_pair, with_value, without, other_pairs, is_named, Reads, IsFaultOf, read_block, read_pairs, is_written};
 
 use crate::header_lines::{
-    bad_line, entry_of_line, is_header_name, is_header_value, status_of_line,
+    bad_line, entry_of_line, is_header_name, is_header_value, is_written, status_of_line,
 };
 use crate::header_writer::{append_lines, lines_len};
 use crate::{Bytes, NoMemory, TextFault, cut};
@@ -99,6 +99,14 @@ impl Headers {
             buf.truncate(start);
         }
         outcome
+    }
+
+    /// Whether the bytes are what [`write`](Headers::write) makes of the headers that
+    /// [`read`](Headers::read) reads from them. It takes no memory.
+    pub fn is_written(block: &[u8]) -> bool
+        ensures { result ≡ is_written block.now }
+    {
+        is_written(block)
     }
 
     /// The length of the written header block, or the greatest `usize` where it is longer.

@@ -63,6 +63,13 @@ impl Name {
         })
     }
 
+    /// Whether the bytes are a name. It takes no memory.
+    pub fn legal(bytes: &[u8]) -> bool
+        ensures { result ≡ is_name bytes.now }
+    {
+        bad_place(bytes).is_none()
+    }
+
     pub fn bytes(&self) -> &[u8]
         ensures value { result.now ≡ self.now }
         ensures legal { IsTrue (is_name self.now) }

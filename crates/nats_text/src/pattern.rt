@@ -69,6 +69,13 @@ impl Pattern {
         }
     }
 
+    /// Whether the bytes are a pattern. It takes no memory.
+    pub fn legal(bytes: &[u8]) -> bool
+        ensures { result ≡ is_pattern bytes.now }
+    {
+        bad_place(Kind::Pattern, bytes).is_none()
+    }
+
     pub fn bytes(&self) -> &[u8]
         ensures value { result.now ≡ self.now }
         ensures legal { IsTrue (is_pattern self.now) }

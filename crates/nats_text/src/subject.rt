@@ -69,6 +69,13 @@ impl Subject {
         }
     }
 
+    /// Whether the bytes are a subject. It takes no memory.
+    pub fn legal(bytes: &[u8]) -> bool
+        ensures { result ≡ is_subject bytes.now }
+    {
+        bad_place(Kind::Subject, bytes).is_none()
+    }
+
     pub fn bytes(&self) -> &[u8]
         ensures value { result.now ≡ self.now }
         ensures legal { IsTrue (is_subject self.now) }

@@ -3,5 +3,6 @@ pub mod Entries
 pub mod FieldCodecs
 pub mod Loops
 pub mod Parts
+pub mod Skims
 pub mod Spelled
 pub mod Writes

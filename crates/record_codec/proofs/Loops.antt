@@ -36,3 +36,17 @@ is_done {A} at front count i bytes total le so_far =
     let k : count - i ≡ 0 = omega arith in
     let one : with_front front (items_at at (count - i) bytes) ≡ Ok (front, bytes) = rw k (ap (λ (xs : List A). Ok (xs, bytes)) (append-nil front)) in
     sym so_far ∙ one
+
+-- an item that can't be read ends it too where no memory is taken
+pub ends_bad : {A : Type 0} (at : List ℕ → Reading A) (left : ℕ) (front : List A) (count i : ℕ) (bytes : List ℕ) (total : Reading (List A)) → i < count → at bytes ≡ Err left → with_front front (items_at at (count - i) bytes) ≡ total → total ≡ Err left
+ends_bad at left front count i bytes total lt h so_far = ends at (stops.Bad left) front count i bytes total lt h so_far
+
+nothing_before : {A : Type 0} (read : Reading (List A)) → with_front [] read ≡ read
+nothing_before (Ok x) = refl
+nothing_before (Err left) = refl
+
+-- before the first item
+pub from_here : {A : Type 0} (at : List ℕ → Reading A) (count : ℕ) (bytes : List ℕ) → with_front [] (items_at at (count - 0) bytes) ≡ items_at at count bytes
+from_here at count bytes =
+    let k : count - 0 ≡ count = omega arith in
+    ap (λ n. with_front [] (items_at at n bytes)) k ∙ nothing_before (items_at at count bytes)

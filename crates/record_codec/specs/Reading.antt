@@ -1,6 +1,7 @@
 -- What bytes say, field by field, and where the first field begins that can't be read.
 use Rattle.std.specs.Prelude.{◌≡◌, ℕ, zero, suc, ◌-◌, ◌<◌, List, [], ◌∷◌, length, take, drop, get_or, Bool, ◌==◌, nat_lt, nat_le, ◌&&◌, if◌then◌else◌, Option, None, Some, Result, Ok, Err}
 use Rattle.std.specs.Int.{w32, w64, from_le_bytes}
+use Rattle.std.specs.Borrow.{Bor}
 use Rattle.std.specs.Str.{bytes_eq}
 use Rattle.nats_text.specs.Headers.{HeaderBlock, written, read_block}
 use Rattle.nats_text.specs.Text.{is_name, is_subject, is_pattern}
@@ -18,6 +19,7 @@ use Rattle.stream_fold.specs.declared.entry.Entry.TheVariants.{Put, Del, Purge, 
 use Rattle.stream_fold.specs.declared.entry.Mark.{Mark}
 use Rattle.record_codec.specs.declared.fault.RecFault.{RecFault}
 use Rattle.record_codec.specs.declared.fault.RecFault.TheVariants as faults
+use Rattle.record_codec.specs.declared.fault.BadField.{BadField}
 use Rattle.record_codec.specs.declared.fault.Stop.{Stop}
 use Rattle.record_codec.specs.declared.fault.Stop.TheVariants as stops
 use Rattle.record_codec.specs.declared.records.Rec.{Rec}
@@ -309,11 +311,27 @@ abbrev pub Gives : {X Y : Type 0} → (X → Y) → Result X Stop → Result Y �
 Gives view (Ok x) read = read ≡ Ok (view x)
 Gives view (Err e) read = Fails e read
 
+-- a field that takes no memory was read as it should be, seen by view
+abbrev pub Finds : {X Y : Type 0} → (X → Y) → Result X BadField → Result Y ℕ → Type 0
+Finds view (Ok x) read = read ≡ Ok (view x)
+Finds view (Err bad) read = read ≡ Err bad.left
+
+-- a field was gone over as it should be: what stands behind it, or how many bytes are left where the
+-- first field begins that can't be read
+abbrev pub Skims : {A : Type 0} → Result (Bor (List ℕ)) BadField → Reading A → Type 0
+Skims {A} (Ok rest) read = (x : A) × (read ≡ Ok (x, rest.now))
+Skims (Err bad) read = read ≡ Err bad.left
+
 -- a record was read as it should be, unless there was no memory
 abbrev pub Decodes : Result Rec RecFault → Result Rec ℕ → Type 0
 Decodes (Ok it) read = read ≡ Ok it
 Decodes (Err (faults.Bad place)) read = read ≡ Err place
 Decodes (Err faults.NoMemory) read = Unit {0}
+
+-- why there is no record: the bytes are none, or they are one and there was no memory
+abbrev pub IsFaultOf : RecFault → Result Rec ℕ → Type 0
+IsFaultOf (faults.Bad place) read = read ≡ Err place
+IsFaultOf faults.NoMemory read = (it : Rec) × (read ≡ Ok it)
 
 -- what may be bytes: whatever the place, the number there is below 256
 abbrev pub AreBytes : List ℕ → Type 0

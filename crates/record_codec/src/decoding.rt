@@ -1,10 +1,11 @@
 ghost use Rattle.std.specs.Prelude.{◌≡◌, ◌-◌, length, IfOk};
-ghost use Rattle.record_codec.specs.Reading.{Gives, Decodes, reading, rec_at, fields_at, entry_at, put_at, del_at, purge_at, expire_at, bind_at, limits_at, boot_at, create_at, remove_at, of_at};
+ghost use Rattle.record_codec.specs.Reading.{Gives, Decodes, IsFaultOf, reading, rec_at, fields_at, entry_at, put_at, del_at, purge_at, expire_at, bind_at, limits_at, boot_at, create_at, remove_at, of_at};
 ghost use Rattle.record_codec.specs.Spelling.{IsSpeakable, spelling};
 
 use crate::fault::Stop;
 use crate::fields::{bad, headers_of, name_of, pattern_of, subject_of, text_of, u32_of, u64_of};
 use crate::reading::{config_of, mark_of};
+use crate::skimming::skim_rec;
 use crate::{Rec, RecFault};
 use nats_text::{Bytes, Message};
 use std::alloc::Global;
@@ -14,10 +15,11 @@ use stream_fold::Entry;
 /// some record, with the place of the first field that can't be read, or of the first byte behind a
 /// whole record. A length or a count that the bytes don't back takes no memory.
 ///
-/// Texts are copied as they are read. So `NoMemory` comes where the fields before the one that wants
-/// memory are those of a record, and what stands behind it is not looked at.
+/// `NoMemory` comes only where the bytes are a record: where memory ends among other bytes, they are
+/// gone over once more without it, and told as `Bad`.
 pub fn decode(alloc: Global, bytes: &[u8]) -> Result<Rec, RecFault>
     ensures exact { Decodes result (reading bytes.now) }
+    ensures memory { result ≡ Err RecFault.NoMemory → (it : Rec) × (reading bytes.now ≡ Ok it) }
 
     // What is read is spelled so.
     ensures spelled { IfOk result (λ it. bytes.now ≡ spelling it) }
@@ -28,7 +30,8 @@ pub fn decode(alloc: Global, bytes: &[u8]) -> Result<Rec, RecFault>
 
 #[tactic(auto, unfolding(crate::specs::Reading::reading))]
 fn whole(alloc: Global, bytes: &[u8]) -> Result<Rec, RecFault>
-    ensures { Decodes result (reading bytes.now) }
+    ensures exact { Decodes result (reading bytes.now) }
+    ensures memory { result ≡ Err RecFault.NoMemory → (it : Rec) × (reading bytes.now ≡ Ok it) }
 {
     match rec_of(alloc, bytes) {
         Ok((it, rest)) => {
@@ -38,7 +41,19 @@ fn whole(alloc: Global, bytes: &[u8]) -> Result<Rec, RecFault>
             Ok(it)
         }
         Err(Stop::Bad { left }) => Err(bad_at(bytes, left)),
-        Err(Stop::NoMemory) => Err(RecFault::NoMemory),
+        Err(Stop::NoMemory) => Err(fault_without_memory(bytes)),
+    }
+}
+
+// The first field that can't be read counts before the want of memory, wherever the memory ended.
+#[tactic(auto, unfolding(crate::specs::Reading::reading))]
+fn fault_without_memory(bytes: &[u8]) -> RecFault
+    ensures { IsFaultOf result (reading bytes.now) }
+{
+    match skim_rec(bytes) {
+        Ok([]) => RecFault::NoMemory,
+        Ok(rest) => bad_at(bytes, rest.len()),
+        Err(bad) => bad_at(bytes, bad.left),
     }
 }
 

@@ -1,6 +1,6 @@
 ghost use Rattle.std.specs.Prelude.{◌≡◌};
 ghost use Rattle.record_codec.specs.declared.fault.RecFault.TheVariants.{NoMemory as DecodesNothing};
-ghost use Rattle.record_codec.specs.declared.fault.Stop.TheVariants.{NoMemory as OutOfMemory};
+ghost use Rattle.record_codec.specs.declared.fault.Stop.TheVariants.{Bad as BadLeft, NoMemory as OutOfMemory};
 
 use nats_text::NoMemory;
 use std::alloc::{AllocError, AllocFailed};
@@ -33,6 +33,20 @@ pub(crate) enum Stop {
     Bad { left: usize },
     /// There was no memory.
     NoMemory,
+}
+
+/// So many bytes are left where the field begins that can't be read.
+#[derive(Clone, Copy, Debug)]
+pub(crate) struct BadField {
+    pub(crate) left: usize,
+}
+
+impl From<BadField> for Stop {
+    ghost from_gives = { λ bad e. e ≡ BadLeft bad.left };
+
+    fn from(bad: BadField) -> Self {
+        Stop::Bad { left: bad.left }
+    }
 }
 
 impl From<NoMemory> for Stop {

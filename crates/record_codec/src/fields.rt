@@ -1,12 +1,10 @@
 //! The fields that many records have, read from the front of bytes. Each reader answers the bytes
 //! behind its field too.
-ghost use Rattle.std.specs.Prelude.{◌≡◌, length, IfOk};
-ghost use Rattle.std.specs.Str.{bytes_eq};
-ghost use Rattle.nats_text.specs.Headers.{written};
-ghost use Rattle.record_codec.specs.Reading.{Gives, u32_at, u64_at, text_at, name_at, subject_at, pattern_at, headers_at};
+ghost use Rattle.std.specs.Prelude.{◌≡◌, length};
+ghost use Rattle.record_codec.specs.Reading.{Finds, Gives, u32_at, u64_at, text_at, name_at, subject_at, pattern_at, headers_at};
 
-use crate::fault::Stop;
-use nats_text::{Headers, Name, NoMemory, Pattern, Subject, TextFault};
+use crate::fault::{BadField, Stop};
+use nats_text::{Headers, Name, Pattern, Subject, TextFault};
 use std::alloc::Global;
 
 // The field that begins here can't be read.
@@ -16,12 +14,19 @@ pub(crate) fn bad(bytes: &[u8]) -> Stop
     Stop::Bad { left: bytes.len() }
 }
 
+// The same of a reader that takes no memory.
+pub(crate) fn bad_field(bytes: &[u8]) -> BadField
+    ensures { result.left ≡ length bytes.now }
+{
+    BadField { left: bytes.len() }
+}
+
 #[tactic(auto, unfolding(crate::specs::Reading::u32_at))]
-pub(crate) fn u32_of(bytes: &[u8]) -> Result<(u32, &[u8]), Stop>
-    ensures { Gives (λ x. (x.0, x.1.now)) result (u32_at bytes.now) }
+pub(crate) fn u32_of(bytes: &[u8]) -> Result<(u32, &[u8]), BadField>
+    ensures { Finds (λ x. (x.0, x.1.now)) result (u32_at bytes.now) }
 {
     if bytes.len() < 4 {
-        return Err(bad(bytes));
+        return Err(bad_field(bytes));
     }
     let (front, rest) = bytes.split_at(4);
     let number = u32::from_le_bytes([front[0], front[1], front[2], front[3]]);
@@ -29,11 +34,11 @@ pub(crate) fn u32_of(bytes: &[u8]) -> Result<(u32, &[u8]), Stop>
 }
 
 #[tactic(auto, unfolding(crate::specs::Reading::u64_at))]
-pub(crate) fn u64_of(bytes: &[u8]) -> Result<(u64, &[u8]), Stop>
-    ensures { Gives (λ x. (x.0, x.1.now)) result (u64_at bytes.now) }
+pub(crate) fn u64_of(bytes: &[u8]) -> Result<(u64, &[u8]), BadField>
+    ensures { Finds (λ x. (x.0, x.1.now)) result (u64_at bytes.now) }
 {
     if bytes.len() < 8 {
-        return Err(bad(bytes));
+        return Err(bad_field(bytes));
     }
     let (front, rest) = bytes.split_at(8);
     let number = u64::from_le_bytes([
@@ -43,13 +48,13 @@ pub(crate) fn u64_of(bytes: &[u8]) -> Result<(u64, &[u8]), Stop>
 }
 
 #[tactic(auto, unfolding(crate::specs::Reading::text_at))]
-pub(crate) fn text_of(bytes: &[u8]) -> Result<(&[u8], &[u8]), Stop>
-    ensures { Gives (λ x. (x.0.now, x.1.now)) result (text_at bytes.now) }
+pub(crate) fn text_of(bytes: &[u8]) -> Result<(&[u8], &[u8]), BadField>
+    ensures { Finds (λ x. (x.0.now, x.1.now)) result (text_at bytes.now) }
 {
     let (len, rest) = u32_of(bytes)?;
     let len = len as usize;
     if rest.len() < len {
-        return Err(bad(bytes));
+        return Err(bad_field(bytes));
     }
     Ok(rest.split_at(len))
 }
@@ -95,23 +100,12 @@ pub(crate) fn headers_of(alloc: Global, bytes: &[u8]) -> Result<(Headers, &[u8])
     ensures { Gives (λ x. (x.0, x.1.now)) result (headers_at bytes.now) }
 {
     let (text, rest) = text_of(bytes)?;
+    if !Headers::is_written(text) {
+        return Err(bad(bytes));
+    }
     match Headers::read(alloc, text) {
-        Ok(headers) => {
-            if !is_block_of(alloc, &headers, text)? {
-                return Err(bad(bytes));
-            }
-            Ok((headers, rest))
-        }
+        Ok(headers) => Ok((headers, rest)),
         Err(TextFault::Bad { .. }) => Err(bad(bytes)),
         Err(TextFault::NoMemory) => Err(Stop::NoMemory),
     }
-}
-
-// Whether the text is what the writer makes of the headers.
-fn is_block_of(alloc: Global, headers: &Headers, text: &[u8]) -> Result<bool, NoMemory>
-    ensures { IfOk result (λ same. same ≡ bytes_eq (written headers.now) text.now) }
-{
-    let mut block = Vec::new(alloc);
-    headers.write(&mut block)?;
-    Ok(block.as_slice() == text)
 }

@@ -1,14 +1,15 @@
 //! What lists and options of a record hold, and these lists and options: read from the front of bytes
-//! as in `fields`, and written as in `writing`.
+//! as in `fields`, gone over as in `skimming`, and written as in `writing`.
 ghost use Rattle.std.specs.Prelude.{◌≡◌, ◌++◌, IfSome, OnOk, OnErr};
 ghost use Rattle.std.specs.List.{flat_map, All};
 ghost use Rattle.nats_text.specs.Headers.{Extends};
-ghost use Rattle.record_codec.specs.Reading.{Gives, items_at, list_at, option_at};
+ghost use Rattle.record_codec.specs.Reading.{Gives, Skims, items_at, list_at, option_at};
 ghost use Rattle.record_codec.specs.Spelling.{list_text, option_text, AreFew};
 
-use crate::fault::Stop;
-use crate::fields::{bad, name_of, pattern_of, u32_of};
+use crate::fault::{BadField, Stop};
+use crate::fields::{bad, bad_field, name_of, pattern_of, u32_of};
 use crate::reading::{mapping_of, origin_of};
+use crate::skimming::{skim_mapping, skim_name, skim_origin, skim_pattern};
 use crate::writing::{put_len, put_mapping, put_name, put_origin, put_pattern};
 use nats_text::{List, Mapping, Name, NoMemory, Origin, Pattern};
 use std::alloc::Global;
@@ -30,6 +31,9 @@ pub(crate) trait Item: Drop {
     fn read(alloc: Global, bytes: &[u8]) -> Result<(Self, &[u8]), Stop>
         ensures { Gives (λ x. (x.0, x.1.now)) result (at bytes.now) };
 
+    fn skim(bytes: &[u8]) -> Result<&[u8], BadField>
+        ensures { Skims result (at bytes.now) };
+
     fn put(&self, buf: &mut Vec<u8>) -> Result<(), NoMemory>
         ensures ok { OnOk result (buf.new.items ≡ buf.old.items ++ text self.now) }
         ensures short { OnOk result (is_item self.now) }
@@ -48,6 +52,10 @@ impl Item for Name {
 
     fn read(alloc: Global, bytes: &[u8]) -> Result<(Name, &[u8]), Stop> {
         name_of(alloc, bytes)
+    }
+
+    fn skim(bytes: &[u8]) -> Result<&[u8], BadField> {
+        skim_name(bytes)
     }
 
     fn put(&self, buf: &mut Vec<u8>) -> Result<(), NoMemory> {
@@ -69,6 +77,10 @@ impl Item for Pattern {
         pattern_of(alloc, bytes)
     }
 
+    fn skim(bytes: &[u8]) -> Result<&[u8], BadField> {
+        skim_pattern(bytes)
+    }
+
     fn put(&self, buf: &mut Vec<u8>) -> Result<(), NoMemory> {
         put_pattern(buf, self)
     }
@@ -88,6 +100,10 @@ impl Item for Mapping {
         mapping_of(alloc, bytes)
     }
 
+    fn skim(bytes: &[u8]) -> Result<&[u8], BadField> {
+        skim_mapping(bytes)
+    }
+
     fn put(&self, buf: &mut Vec<u8>) -> Result<(), NoMemory> {
         put_mapping(buf, self)
     }
@@ -105,6 +121,10 @@ impl Item for Origin {
 
     fn read(alloc: Global, bytes: &[u8]) -> Result<(Origin, &[u8]), Stop> {
         origin_of(alloc, bytes)
+    }
+
+    fn skim(bytes: &[u8]) -> Result<&[u8], BadField> {
+        skim_origin(bytes)
     }
 
     fn put(&self, buf: &mut Vec<u8>) -> Result<(), NoMemory> {
@@ -146,6 +166,35 @@ pub(crate) fn option_of<T: Item>(alloc: Global, bytes: &[u8]) -> Result<(Option<
             Ok((Some(item), rest))
         }
         _ => Err(bad(bytes)),
+    }
+}
+
+#[tactic(auto, unfolding(crate::specs::Reading::list_at))]
+pub(crate) fn skim_list<T: Item>(bytes: &[u8]) -> Result<&[u8], BadField>
+    ensures { Skims result (list_at T.at bytes.now) }
+{
+    let (count, rest) = u32_of(bytes)?;
+    skim_items::<T>(count, rest)
+}
+
+fn skim_items<T: Item>(count: u32, bytes: &[u8]) -> Result<&[u8], BadField>
+    ensures { Skims result (items_at T.at count bytes.now) }
+{
+    let mut rest = bytes;
+    for _ in 0..count {
+        rest = T::skim(rest)?;
+    }
+    Ok(rest)
+}
+
+#[tactic(auto, unfolding(crate::specs::Reading::option_at))]
+pub(crate) fn skim_option<T: Item>(bytes: &[u8]) -> Result<&[u8], BadField>
+    ensures { Skims result (option_at T.at bytes.now) }
+{
+    match bytes {
+        [0, rest @ ..] => Ok(rest),
+        [1, rest @ ..] => T::skim(rest),
+        _ => Err(bad_field(bytes)),
     }
 }
 

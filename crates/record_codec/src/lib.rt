@@ -9,6 +9,7 @@ mod items;
 pub mod laws;
 mod reading;
 mod records;
+mod skimming;
 mod writing;
 
 pub use decoding::decode;

@@ -1,17 +1,17 @@
 //! The parts of records, read from the front of bytes as in `fields`.
 ghost use Rattle.std.specs.Prelude.{◌≡◌};
-ghost use Rattle.record_codec.specs.Reading.{Gives, option_at, mapping_at, start_at, origin_at, discard_at, copies_at, config_at, mark_at};
+ghost use Rattle.record_codec.specs.Reading.{Finds, Gives, option_at, mapping_at, start_at, origin_at, discard_at, copies_at, config_at, mark_at};
 
-use crate::fault::Stop;
-use crate::fields::{bad, name_of, text_of, u32_of, u64_of};
+use crate::fault::{BadField, Stop};
+use crate::fields::{bad, bad_field, name_of, text_of, u32_of, u64_of};
 use crate::items::{list_of, option_of};
 use nats_text::{Bytes, Mapping, Origin, Start};
 use std::alloc::Global;
 use stream_fold::{Config, Copies, Discard, Mark};
 
 #[tactic(auto, unfolding(crate::specs::Reading::option_at))]
-pub(crate) fn mark_of(bytes: &[u8]) -> Result<(Option<Mark>, &[u8]), Stop>
-    ensures { Gives (λ x. (x.0, x.1.now)) result (option_at mark_at bytes.now) }
+pub(crate) fn mark_of(bytes: &[u8]) -> Result<(Option<Mark>, &[u8]), BadField>
+    ensures { Finds (λ x. (x.0, x.1.now)) result (option_at mark_at bytes.now) }
 {
     match bytes {
         [0, rest @ ..] => Ok((None, rest)),
@@ -19,13 +19,13 @@ pub(crate) fn mark_of(bytes: &[u8]) -> Result<(Option<Mark>, &[u8]), Stop>
             let (mark, rest) = some_mark_of(mark)?;
             Ok((Some(mark), rest))
         }
-        _ => Err(bad(bytes)),
+        _ => Err(bad_field(bytes)),
     }
 }
 
 #[tactic(auto, unfolding(crate::specs::Reading::mark_at))]
-fn some_mark_of(bytes: &[u8]) -> Result<(Mark, &[u8]), Stop>
-    ensures { Gives (λ x. (x.0, x.1.now)) result (mark_at bytes.now) }
+fn some_mark_of(bytes: &[u8]) -> Result<(Mark, &[u8]), BadField>
+    ensures { Finds (λ x. (x.0, x.1.now)) result (mark_at bytes.now) }
 {
     let (index, rest) = u32_of(bytes)?;
     let (seq, rest) = u64_of(rest)?;
@@ -46,8 +46,8 @@ pub(crate) fn mapping_of(alloc: Global, bytes: &[u8]) -> Result<(Mapping, &[u8])
 }
 
 #[tactic(auto, unfolding(crate::specs::Reading::start_at))]
-fn start_of(bytes: &[u8]) -> Result<(Start, &[u8]), Stop>
-    ensures { Gives (λ x. (x.0, x.1.now)) result (start_at bytes.now) }
+pub(crate) fn start_of(bytes: &[u8]) -> Result<(Start, &[u8]), BadField>
+    ensures { Finds (λ x. (x.0, x.1.now)) result (start_at bytes.now) }
 {
     match bytes {
         [0, rest @ ..] => {
@@ -58,7 +58,7 @@ fn start_of(bytes: &[u8]) -> Result<(Start, &[u8]), Stop>
             let (moment, rest) = u64_of(rest)?;
             Ok((Start::Time(moment), rest))
         }
-        _ => Err(bad(bytes)),
+        _ => Err(bad_field(bytes)),
     }
 }
 
@@ -82,13 +82,13 @@ pub(crate) fn origin_of(alloc: Global, bytes: &[u8]) -> Result<(Origin, &[u8]), 
 }
 
 #[tactic(auto, unfolding(crate::specs::Reading::discard_at))]
-fn discard_of(bytes: &[u8]) -> Result<(Discard, &[u8]), Stop>
-    ensures { Gives (λ x. (x.0, x.1.now)) result (discard_at bytes.now) }
+pub(crate) fn discard_of(bytes: &[u8]) -> Result<(Discard, &[u8]), BadField>
+    ensures { Finds (λ x. (x.0, x.1.now)) result (discard_at bytes.now) }
 {
     match bytes {
         [0, rest @ ..] => Ok((Discard::Old, rest)),
         [1, rest @ ..] => Ok((Discard::New, rest)),
-        _ => Err(bad(bytes)),
+        _ => Err(bad_field(bytes)),
     }
 }
 

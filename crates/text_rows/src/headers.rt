@@ -12,7 +12,9 @@ const BLOCKS: &[u8] = b"\
     NATS/1.0 503\r\n\r\n|NATS/1.0 503\r\n\r\n;\
     NATS/1.0 100 Idle Heartbeat\r\nNats-Last-Consumer: 7\r\n\r\n|NATS/1.0 100 Idle Heartbeat\r\nNats-Last-Consumer: 7\r\n\r\n;\
     NATS/1.0\r\nA:1\r\nb: \t2\t \r\nA:\r\nC: \t \r\n\r\n|NATS/1.0\r\nA: 1\r\nb: 2\r\nA: \r\nC: \r\n\r\n;\
-    NATS/1.0\r\nA: x:y\tz \r\n\r\n|NATS/1.0\r\nA: x:y\tz\r\n\r\n";
+    NATS/1.0\r\nA: x:y\tz \r\n\r\n|NATS/1.0\r\nA: x:y\tz\r\n\r\n;\
+    NATS/1.0\r\nA: 1\r\nB:2 \r\n\r\n|NATS/1.0\r\nA: 1\r\nB: 2\r\n\r\n;\
+    NATS/1.0\r\nA:\t1\r\n\r\n|NATS/1.0\r\nA: 1\r\n\r\n";
 
 #[test]
 fn blocks_are_read_and_written(rt: HostRuntime) -> Result<(), Fail> {
@@ -20,6 +22,8 @@ fn blocks_are_read_and_written(rt: HostRuntime) -> Result<(), Fail> {
         let (block, want) = fields(row, b'|');
         let written = rewritten(rt.alloc(), block)?;
         assert!(rt; written.as_slice() == want, "{block:?}");
+        assert!(rt; Headers::is_written(want), "{want:?}");
+        assert!(rt; Headers::is_written(block) == (block == want), "{block:?}");
     }
     Ok(())
 }
@@ -70,6 +74,7 @@ fn what_is_no_block_is_refused(rt: HostRuntime) -> Result<(), Fail> {
     for row in &pieces(rt.alloc(), NO_BLOCKS, b';')? {
         let (block, place) = fields(row, b'|');
         assert_eq!(rt; bad_place(rt.alloc(), block), number(place), "{block:?}");
+        assert!(rt; !Headers::is_written(block), "{block:?}");
     }
     Ok(())
 }

@@ -118,6 +118,9 @@ fn are_places(alloc: Global, text: &[u8], places: &[u8]) -> bool {
     place_of(Name::read(alloc, text)) == number(name)
         && place_of(Subject::read(alloc, text)) == number(subject)
         && place_of(Pattern::read(alloc, text)) == number(pattern)
+        && Name::legal(text) == number(name).is_none()
+        && Subject::legal(text) == number(subject).is_none()
+        && Pattern::legal(text) == number(pattern).is_none()
 }
 
 /// The place at which a text is bad. No row wants the one that stands for want of memory.

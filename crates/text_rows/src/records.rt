@@ -283,7 +283,7 @@ fn has_limits(config: &Config) -> bool {
 
 #[test]
 fn the_first_bad_field_is_told(rt: HostRuntime) -> Result<(), Fail> {
-    let rows: [(&[&[u8]], u64); 19] = [
+    let rows: [(&[&[u8]], u64); 20] = [
         // No bytes, unknown kinds, and a byte behind a record.
         (&[], 0),
         (&[b"\0"], 0),
@@ -326,7 +326,8 @@ fn the_first_bad_field_is_told(rt: HostRuntime) -> Result<(), Fail> {
         // Counts that the bytes don't back.
         (&[b"\x09", NAME, NAME, FULL], 15),
         (&[b"\x09", NAME, NAME, FULL, NAME], 20),
-        // A header block without a space behind a colon, and one without a line.
+        // A header block without a space behind a colon, one with the space behind the value, and one
+        // without a line.
         (
             &[
                 b"\x04",
@@ -335,6 +336,18 @@ fn the_first_bad_field_is_told(rt: HostRuntime) -> Result<(), Fail> {
                 ONE,
                 b"\0\x01\0\0\0a",
                 b"\x11\0\0\0NATS/1.0\r\nA:b\r\n\r\n",
+                NONE,
+            ],
+            28,
+        ),
+        (
+            &[
+                b"\x04",
+                NAME,
+                ONE,
+                ONE,
+                b"\0\x01\0\0\0a",
+                b"\x12\0\0\0NATS/1.0\r\nA:b \r\n\r\n",
                 NONE,
             ],
             28,

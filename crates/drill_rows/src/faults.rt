@@ -4,6 +4,7 @@ use leafd_cli::Status;
 use leafd_script::ScriptKind;
 use nats_text::Bytes;
 use std::test::Fail;
+use subject_transform::TransformKind;
 
 const SCRIPT: &[u8] = b"node hub\nstream hub S\npub hub S S a\n";
 
@@ -12,7 +13,7 @@ const USAGE: &[u8] =
 
 #[test]
 fn words_that_are_no_command(rt: HostRuntime) -> Result<(), Fail> {
-    let rows: [&[&str]; 9] = [
+    let rows: [&[&str]; 13] = [
         &[],
         &[""],
         &["drills"],
@@ -22,6 +23,10 @@ fn words_that_are_no_command(rt: HostRuntime) -> Result<(), Fail> {
         &["inspect"],
         &["inspect", "store", "store"],
         &["drill", "store"],
+        &["map"],
+        &["map", "foo.*", "bar.$1"],
+        &["map", "foo.*", "bar.$1", "foo.a", "foo.a"],
+        &["Map", "foo.*", "bar.$1", "foo.a"],
     ];
     for words in rows {
         let alloc = rt.alloc();
@@ -112,6 +117,10 @@ fn statuses_have_their_numbers(rt: HostRuntime) {
         name: Bytes::new(alloc),
         len: 0,
     };
+    let transform = Status::BadTransform {
+        place: 0,
+        kind: TransformKind::BadSource,
+    };
     assert_eq!(rt; Status::Done.number(), 0);
     assert_eq!(rt; line.number(), 1);
     assert_eq!(rt; Status::Usage.number(), 2);
@@ -122,4 +131,6 @@ fn statuses_have_their_numbers(rt: HostRuntime) {
     assert_eq!(rt; Status::ScriptTooLong.number(), 7);
     assert_eq!(rt; bad.number(), 8);
     assert_eq!(rt; long.number(), 12);
+    assert_eq!(rt; transform.number(), 1);
+    assert_eq!(rt; Status::NoMatch.number(), 9);
 }

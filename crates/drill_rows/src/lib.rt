@@ -1,10 +1,12 @@
-//! Worked drills: scripts, and what `leafd drill` prints of them.
+//! Worked drills and mappings: what `leafd drill` prints of scripts, and `leafd map` of subjects.
 #![tactic(auto)]
 
 #[cfg(test)]
 mod faults;
 #[cfg(test)]
 mod hostile;
+#[cfg(test)]
+mod maps;
 #[cfg(test)]
 mod rows;
 #[cfg(test)]

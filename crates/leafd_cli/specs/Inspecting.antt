@@ -12,7 +12,7 @@ use Rattle.shard_store.specs.Logs.{boot}
 use Rattle.shard_store.specs.Streams.{AreStreams}
 use Rattle.shard_store.specs.Stores.{StoreHolds, AreShort, IsBadStore, IsTooLong}
 use Rattle.leafd_cli.specs.declared.status.Status.{Status}
-use Rattle.leafd_cli.specs.declared.status.Status.TheVariants.{Done, ScriptFault, Usage, ReadFault, WriteFault, DiskFault, NoMemory, ScriptTooLong, BadJournal, JournalTooLong}
+use Rattle.leafd_cli.specs.declared.status.Status.TheVariants.{Done, ScriptFault, Usage, ReadFault, WriteFault, DiskFault, NoMemory, ScriptTooLong, BadJournal, JournalTooLong, BadTransform, NoMatch}
 use Rattle.leafd_cli.specs.Report.{numbers_text, row_text}
 use Rattle.leafd_cli.specs.Folders.{file_name, path}
 
@@ -81,3 +81,5 @@ Inspects tells files dir before after NoMemory = Keeps before after ⊎ Inspects
 Inspects tells files dir before after ScriptTooLong = ⊥
 Inspects tells files dir before after (BadJournal name place) = Keeps before after × (tells → IsFirstFault (IsBadAt place) files dir name)
 Inspects tells files dir before after (JournalTooLong name len) = Keeps before after × (tells → IsFirstFault (IsLongBy len) files dir name)
+Inspects tells files dir before after (BadTransform place kind) = ⊥
+Inspects tells files dir before after NoMatch = ⊥

@@ -1,8 +1,7 @@
 -- What the parts of an inspection do.
 use Rattle.std.specs.Prelude.{◌≡◌, ◌≢◌, ◌⊎◌, ℕ, ◌+◌, ◌-◌, ◌^◌, min, List, ◌++◌, Option, None, Some, Result, Ok, Err}
 use Rattle.std.specs.Global.{Vec}
-use Rattle.std.specs.Io.KnownBytes.{Appends}
-use Rattle.leaf_edges.specs.Causes.{Rose, AppendsPrefix}
+use Rattle.leaf_edges.specs.Causes.{Rose}
 use Rattle.leaf_edges.specs.declared.fault.EdgeError.{EdgeError}
 use Rattle.leaf_edges.specs.declared.fault.EdgeError.TheVariants.{Failed, NoMemory as NoRoom}
 use Rattle.stream_fold.specs.declared.entry.Numbered.{Numbered}
@@ -34,11 +33,6 @@ fault_status Disk = ended.DiskFault
 fault_status (BadJournal name place) = ended.BadJournal name place
 fault_status (TooLong name len) = ended.JournalTooLong name len
 fault_status NoMemory = ended.NoMemory
-
--- the report was written, or a prefix of it
-abbrev pub Writes : Option (List ℕ) → Option (List ℕ) → List ℕ → Status → Type 0
-Writes before after report status = ((status ≡ ended.Done) × Appends before after report)
-    ⊎ (((status ≡ ended.WriteFault) ⊎ (status ≡ ended.NoMemory)) × AppendsPrefix before after report)
 
 -- what is told of a shard's fault; there may be no memory for the file's name
 abbrev pub TurnsInto : ℕ → StoreFault → InspectFault → Type 0

@@ -7,6 +7,7 @@ pub mod Inspections
 pub mod Keeping
 pub mod Legal
 pub mod Logs
+pub mod Mapping
 pub mod Operations
 pub mod Outcome
 pub mod Places

@@ -5,8 +5,10 @@ use Rattle.std.specs.Io.KnownBytes.{Appends, Keeps, Consumes, IsAtEnd}
 use Rattle.leaf_edges.specs.Causes.{Rose, AppendsPrefix}
 use Rattle.leafd_script.specs.declared.fault.ScriptKind.{ScriptKind}
 use Rattle.leafd_script.specs.Kinds.{kind_word}
+use Rattle.subject_transform.specs.Kinds as transforms
 use Rattle.leafd_cli.specs.declared.status.Status.{Status}
-use Rattle.leafd_cli.specs.declared.status.Status.TheVariants.{Done, ScriptFault, Usage, ReadFault, WriteFault, DiskFault, NoMemory, ScriptTooLong, BadJournal, JournalTooLong}
+use Rattle.leafd_cli.specs.declared.status.Status.TheVariants.{Done, ScriptFault, Usage, ReadFault, WriteFault, DiskFault, NoMemory, ScriptTooLong, BadJournal, JournalTooLong, BadTransform, NoMatch}
+use Rattle.leafd_cli.specs.Mapping.{MapTexts, map_texts}
 use Rattle.leafd_cli.specs.Reporting.{Prints}
 
 -- the number that the process ends with
@@ -21,6 +23,8 @@ status_number NoMemory = 6
 status_number ScriptTooLong = 7
 status_number (BadJournal name place) = 8
 status_number (JournalTooLong name len) = 12
+status_number (BadTransform place kind) = 1
+status_number NoMatch = 9
 
 -- the line by which a status is told, none where all is done
 abbrev pub status_line : Status → List ℕ
@@ -34,6 +38,8 @@ status_line NoMemory = codes "leafd: out of memory\n"
 status_line ScriptTooLong = codes "leafd: script too long\n"
 status_line (BadJournal name place) = codes "leafd: bad journal " ++ (name ++ (codes " at " ++ (decimal place ++ codes "\n")))
 status_line (JournalTooLong name len) = codes "leafd: journal too long " ++ (name ++ codes "\n")
+status_line (BadTransform place kind) = codes "leafd: transform: " ++ (transforms.kind_word kind ++ (codes " at " ++ (decimal place ++ codes "\n")))
+status_line NoMatch = codes "leafd: no match\n"
 
 -- the words are `drill` alone
 abbrev pub is_drill : List (List ℕ) → Bool
@@ -50,11 +56,11 @@ folder (word ∷ dir ∷ next ∷ words) = None
 
 -- the words that are a command
 abbrev pub are_command : List (List ℕ) → Bool
-are_command words = is_drill words || is_some (folder words)
+are_command words = is_drill words || is_some (folder words) || is_some (map_texts words)
 
--- what holds of a drill, of an inspection of a folder, and of words that are no command
-abbrev pub ByWords : List (List ℕ) → Type 0 → (List ℕ → Type 0) → Type 0 → Type 0
-ByWords words drills inspects neither = MatchBool (is_drill words) drills (MatchOption (folder words) neither inspects)
+-- what holds of a drill, of an inspection of a folder, of a mapping of a subject, and of words that are no command
+abbrev pub ByWords : List (List ℕ) → Type 0 → (List ℕ → Type 0) → (MapTexts → Type 0) → Type 0 → Type 0
+ByWords words drills inspects maps none = MatchBool (is_drill words) drills (MatchOption (folder words) (MatchOption (map_texts words) none maps) inspects)
 
 -- a source gave this text and then its end
 pub record IsRead (old new : Option (List ℕ)) (text : List ℕ) : Type 0 where
@@ -83,6 +89,8 @@ Drills left rest before after DiskFault = ⊥
 Drills left rest before after ScriptTooLong = IsTooLongScript left × Keeps before after
 Drills left rest before after (BadJournal name place) = ⊥
 Drills left rest before after (JournalTooLong name len) = ⊥
+Drills left rest before after (BadTransform place kind) = ⊥
+Drills left rest before after NoMatch = ⊥
 
 -- what was told of a status: nothing where all is done, else a prefix of its line
 abbrev pub Tells : Option (List ℕ) → Option (List ℕ) → Status → Type 0
@@ -98,6 +106,11 @@ CountsRead before now _ = now ≡ before
 abbrev pub CountsWrite : ℕ → ℕ → Status → Type 0
 CountsWrite before now WriteFault = Rose before now
 CountsWrite before now _ = now ≡ before
+
+-- the report was written, or a prefix of it
+abbrev pub Writes : Option (List ℕ) → Option (List ℕ) → List ℕ → Status → Type 0
+Writes before after report status = ((status ≡ Done) × Appends before after report)
+    ⊎ (((status ≡ WriteFault) ⊎ (status ≡ NoMemory)) × AppendsPrefix before after report)
 
 -- a count went up by one, up to its type's end
 abbrev pub GoesUp : ℕ → ℕ → Type 0

@@ -4,7 +4,7 @@ use Rattle.std.specs.Io.KnownBytes.{Appends}
 use Rattle.leaf_edges.specs.Causes.{AppendsPrefix}
 use Rattle.leafd_script.specs.declared.fault.ScriptKind.{ScriptKind}
 use Rattle.leafd_cli.specs.declared.status.Status.{Status}
-use Rattle.leafd_cli.specs.declared.status.Status.TheVariants.{Done, ScriptFault, Usage, ReadFault, WriteFault, DiskFault, NoMemory, ScriptTooLong, BadJournal, JournalTooLong}
+use Rattle.leafd_cli.specs.declared.status.Status.TheVariants.{Done, ScriptFault, Usage, ReadFault, WriteFault, DiskFault, NoMemory, ScriptTooLong, BadJournal, JournalTooLong, BadTransform, NoMatch}
 use Rattle.leafd_cli.specs.Logs.{Logs, no_logs}
 use Rattle.leafd_cli.specs.ScriptLines.{ScriptLine, lines_of}
 use Rattle.leafd_cli.specs.Legal.{judged}
@@ -52,3 +52,5 @@ Prints text before after DiskFault = ⊥
 Prints text before after ScriptTooLong = ⊥
 Prints text before after (BadJournal name place) = ⊥
 Prints text before after (JournalTooLong name len) = ⊥
+Prints text before after (BadTransform place kind) = ⊥
+Prints text before after NoMatch = ⊥

@@ -4,14 +4,15 @@ ghost use Rattle.std.specs.List.{flat_map};
 ghost use Rattle.shard_store.specs.declared.fault.Part.TheVariants.{Spare as Second};
 ghost use Rattle.leafd_cli.specs.Folders.{contents, KeepsFiles, file_name, path, part_text};
 ghost use Rattle.leafd_cli.specs.Inspecting.{stream_text, shard_text, Inspects};
-ghost use Rattle.leafd_cli.specs.Inspections.{Reports, Pushes, ReadsDisks, ReadsShard, HasRead, HasReadAll, TurnsInto, Writes, fault_status};
+ghost use Rattle.leafd_cli.specs.Inspections.{Reports, Pushes, ReadsDisks, ReadsShard, HasRead, HasReadAll, TurnsInto, fault_status};
 ghost use Rattle.leafd_cli.specs.Outcome.{CountsRead, CountsWrite, CountsDisks};
 ghost use Rattle.leafd_cli.specs.declared.inspect.InspectFault.TheVariants.{NoMemory as WithoutMemory};
 
 use crate::Status;
+use crate::output::write_report;
 use crate::report::{push_numbers, push_rows};
 use crate::texts::{push_counted, push_number, push_text};
-use leaf_edges::{EdgeError, Files, Sink, pump_all};
+use leaf_edges::{EdgeError, Files, Sink};
 use nats_text::{Bytes, List, NoMemory};
 use shard_store::{Facts, Part, StoreFault, read_streams};
 use std::alloc::Global;
@@ -69,17 +70,6 @@ pub fn inspect<O: Sink, F: Files>(alloc: Global, dir: &[u8], files: &mut F, out:
     match report_of(alloc, dir, files) {
         Ok(report) => write_report(out, &report),
         Err(fault) => fault_status(fault),
-    }
-}
-
-fn write_report<O: Sink>(out: &mut O, report: &[u8]) -> Status
-    ensures written { Writes (O.taken out.old) (O.taken out.new) report.now result }
-    ensures write { CountsWrite (O.faults out.old) (O.faults out.new) result }
-{
-    match pump_all(out, report) {
-        Ok(()) => Status::Done,
-        Err(EdgeError::Failed) => Status::WriteFault,
-        Err(EdgeError::NoMemory) => Status::NoMemory,
     }
 }
 

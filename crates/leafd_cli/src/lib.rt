@@ -1,5 +1,5 @@
-//! The commands of `leafd`: `drill` runs a script and prints the report of a right book, and `inspect`
-//! prints what a store holds.
+//! The commands of `leafd`: `drill` runs a script and prints the report of a right book, `inspect` prints
+//! what a store holds, and `map` what a transform makes of a subject.
 #![tactic(auto)]
 
 mod drill;
@@ -8,7 +8,9 @@ mod finding;
 mod input;
 mod inspect;
 mod legal;
+mod mapping;
 mod operation;
+mod output;
 mod report;
 mod settle;
 mod shard;

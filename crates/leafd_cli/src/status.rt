@@ -3,6 +3,7 @@ ghost use Rattle.leafd_cli.specs.Outcome.{status_number};
 
 use leafd_script::ScriptKind;
 use nats_text::Bytes;
+use subject_transform::TransformKind;
 
 /// How a command ended.
 #[derive(Debug, Drop, PartialEq)]
@@ -29,6 +30,11 @@ pub enum Status {
     BadJournal { name: Bytes, place: u64 },
     /// The file of this name has more than `2^40` bytes, namely this many. Nothing was written.
     JournalTooLong { name: Bytes, len: u64 },
+    /// The source and the destination are no transform. The place is in bytes from 0, in the source where the
+    /// kind is `BadSource`, and else in the destination without its blanks. Nothing was written.
+    BadTransform { place: u64, kind: TransformKind },
+    /// The transform makes no subject of the word, or that is none itself. Nothing was written.
+    NoMatch,
 }
 
 impl Status {
@@ -47,6 +53,8 @@ impl Status {
             Status::ScriptTooLong => 7,
             Status::BadJournal { .. } => 8,
             Status::JournalTooLong { .. } => 12,
+            Status::BadTransform { .. } => 1,
+            Status::NoMatch => 9,
         }
     }
 }

@@ -2,12 +2,14 @@ ghost use Rattle.std.specs.Prelude.{◌++◌, codes, decimal};
 ghost use Rattle.std.specs.List.{flat_map};
 ghost use Rattle.leaf_edges.specs.Causes.{Pumps};
 ghost use Rattle.leafd_script.specs.Kinds.{kind_word};
+ghost use Rattle.subject_transform.specs.Kinds.{kind_word as transform_word};
 ghost use Rattle.leafd_cli.specs.Outcome.{Tells};
 
 use crate::Status;
 use itoa::Buffer;
 use leaf_edges::{EdgeError, Sink, pump_all};
 use leafd_script::ScriptKind;
+use subject_transform::TransformKind;
 
 const USAGE: &[u8] =
     b"leafd: usage: leafd drill | make NUMBER LINES | trial NUMBER LINES | check CONF | inspect DIR | map SRC DEST SUBJECT | serve CONF\n";
@@ -27,6 +29,8 @@ pub fn tell<E: Sink>(err: &mut E, status: &Status)
         Status::ScriptTooLong => pump_all(err, b"leafd: script too long\n"),
         Status::BadJournal { name, place } => tell_place(err, name.as_slice(), *place),
         Status::JournalTooLong { name, .. } => tell_file(err, name.as_slice()),
+        Status::BadTransform { place, kind } => tell_transform(err, *place, *kind),
+        Status::NoMatch => pump_all(err, b"leafd: no match\n"),
     };
 }
 
@@ -54,6 +58,16 @@ fn tell_file<E: Sink>(err: &mut E, name: &[u8]) -> Result<(), EdgeError>
     ensures { Pumps (E.taken err.old) (E.taken err.new) result (codes "leafd: journal too long " ++ (name.now ++ codes "\n")) }
 {
     pump_pieces(err, &[b"leafd: journal too long ", name, b"\n"])
+}
+
+/// Writes what is wrong with a transform, and where.
+fn tell_transform<E: Sink>(err: &mut E, place: u64, kind: TransformKind) -> Result<(), EdgeError>
+    ensures { Pumps (E.taken err.old) (E.taken err.new) result (codes "leafd: transform: " ++ (transform_word kind ++ (codes " at " ++ (decimal place ++ codes "\n")))) }
+{
+    let mut digits = Buffer::new();
+    let number = digits.format(place).as_bytes();
+    let word = kind.word().as_bytes();
+    pump_pieces(err, &[b"leafd: transform: ", word, b" at ", number, b"\n"])
 }
 
 fn pump_pieces<E: Sink>(err: &mut E, pieces: &[&[u8]]) -> Result<(), EdgeError>

@@ -6,17 +6,20 @@ ghost use Rattle.leafd_cli.specs.Reporting.{Prints};
 ghost use Rattle.leafd_cli.specs.Folders.{contents, KeepsFiles};
 ghost use Rattle.leafd_cli.specs.Runs.{Ends, shown};
 ghost use Rattle.leafd_cli.specs.Outcome.{Drills, Tells, CountsRead, CountsWrite, CountsDisks, ByWords, is_drill, folder};
+ghost use Rattle.leafd_cli.specs.Mapping.{map_texts, texts_of};
 
 use crate::Status;
 use crate::drill::run_script;
 use crate::input::{LONGEST, read_all};
 use crate::inspect::inspect;
+use crate::mapping::{MapWords, map_subject};
 use crate::tell::tell;
 use leaf_edges::{Clock, EdgeError, Files, Sink, Source};
 use std::alloc::Global;
 
 /// Does the command that the words name: `drill` reads a script from `input` and writes its report
-/// to `out`; `inspect` with a folder writes to `out` what the store in this folder of `files` holds.
+/// to `out`; `inspect` with a folder writes to `out` what the store in this folder of `files` holds; `map` with
+/// a source, a destination and a subject writes to `out` what this transform makes of the subject.
 /// Every status but `Done` writes its line to `err`, where a fault is passed over. No command asks the
 /// clock yet.
 pub fn leafd_run<I: Source, O: Sink, E: Sink, F: Files, K: Clock>(
@@ -36,7 +39,8 @@ pub fn leafd_run<I: Source, O: Sink, E: Sink, F: Files, K: Clock>(
     ensures told { Tells (E.taken err.old) (E.taken err.new) result }
 
     // What a command doesn't use stays, and what is used of the files is put back.
-    ensures unused { ByWords (map string_bytes words.now) (files.new ≡ files.old) (λ _. input.new ≡ input.old) ((files.new ≡ files.old) × (input.new ≡ input.old)) }
+    ensures unused { ByWords (map string_bytes words.now) (files.new ≡ files.old) (λ _. input.new ≡ input.old)
+        (λ _. (files.new ≡ files.old) × (input.new ≡ input.old)) ((files.new ≡ files.old) × (input.new ≡ input.old)) }
     ensures kept { F.tells → KeepsFiles F.place F.is_out F.D.seen files.old files.new }
     ensures leads { F.leads files.old files.new }
     ensures clock { clock.new ≡ clock.old }
@@ -58,15 +62,19 @@ fn command<I: Source, O: Sink, F: Files>(
     ensures ends { Ends (map string_bytes words.now) F.tells (contents F.place F.D.seen files.old)
         (shown (I.left input.old) (O.taken out.old) (I.faults input.old) (O.faults out.old) (F.faults files.old) (F.disk_faults files.old))
         (shown (I.left input.new) (O.taken out.new) (I.faults input.new) (O.faults out.new) (F.faults files.new) (F.disk_faults files.new)) result }
-    ensures unused { ByWords (map string_bytes words.now) (files.new ≡ files.old) (λ _. input.new ≡ input.old) ((files.new ≡ files.old) × (input.new ≡ input.old)) }
+    ensures unused { ByWords (map string_bytes words.now) (files.new ≡ files.old) (λ _. input.new ≡ input.old)
+        (λ _. (files.new ≡ files.old) × (input.new ≡ input.old)) ((files.new ≡ files.old) × (input.new ≡ input.old)) }
     ensures kept { F.tells → KeepsFiles F.place F.is_out F.D.seen files.old files.new }
     ensures leads { F.leads files.old files.new }
 {
     if is_drill(words) {
         return drill(alloc, input, out);
     }
-    match folder(words) {
-        Some(dir) => inspect(alloc, dir, files, out),
+    if let Some(dir) = folder(words) {
+        return inspect(alloc, dir, files, out);
+    }
+    match map_words(words) {
+        Some(texts) => map_subject(alloc, texts, out),
         None => Status::Usage,
     }
 }
@@ -87,6 +95,22 @@ fn folder(words: &[String]) -> Option<&[u8]>
     if let [word, dir] = words {
         if word.as_bytes() == b"inspect".as_slice() {
             return Some(dir.as_bytes());
+        }
+    }
+    None
+}
+
+/// The three words behind the word `map`.
+fn map_words(words: &[String]) -> Option<MapWords<'_>>
+    ensures { option_map texts_of result ≡ map_texts (map string_bytes words.now) }
+{
+    if let [word, src, dest, subject] = words {
+        if word.as_bytes() == b"map".as_slice() {
+            return Some(MapWords {
+                src: src.as_bytes(),
+                dest: dest.as_bytes(),
+                subject: subject.as_bytes(),
+            });
         }
     }
     None

@@ -1,4 +1,5 @@
 pub mod Domains
+pub mod Kinds
 pub mod Laws
 pub mod Mapped
 pub mod Parts

@@ -1,32 +1,50 @@
 ghost use Rattle.std.specs.Prelude.{◌≡◌};
+ghost use Rattle.subject_transform.specs.Kinds.{kind_word};
 ghost use Rattle.subject_transform.specs.declared.fault.TransformFault.TheVariants.{NoMemory as OutOfMemory};
 
 use nats_text::NoMemory;
 use std::alloc::{AllocError, AllocFailed};
+use std::fmt;
 use thiserror::Error;
 
 /// What is wrong with a transform.
-#[derive(Clone, Copy, Debug, PartialEq, Eq, Error)]
+#[derive(Clone, Copy, Debug, PartialEq, Eq)]
 pub enum TransformKind {
     /// The source is no pattern.
-    #[error("BadSource")]
     BadSource,
     /// The destination has no bytes or more than 1,024, or the token is empty, isn't UTF-8, is `*`,
     /// or is a `>` before the last.
-    #[error("BadDest")]
     BadDest,
     /// The token is a function of no known name or form, or with a wrong number of arguments.
-    #[error("BadFunction")]
     BadFunction,
     /// The source has no `*` of that number.
-    #[error("BadIndex")]
     BadIndex,
     /// An argument isn't 1 to 10 digits, or is out of its range.
-    #[error("BadNumber")]
     BadNumber,
     /// The source ends in `>` and the destination doesn't, or the other way round.
-    #[error("TailMismatch")]
     TailMismatch,
+}
+
+impl TransformKind {
+    /// The word by which it is told.
+    pub fn word(self) -> &'static str
+        ensures { result.now ≡ kind_word self }
+    {
+        match self {
+            TransformKind::BadSource => "BadSource",
+            TransformKind::BadDest => "BadDest",
+            TransformKind::BadFunction => "BadFunction",
+            TransformKind::BadIndex => "BadIndex",
+            TransformKind::BadNumber => "BadNumber",
+            TransformKind::TailMismatch => "TailMismatch",
+        }
+    }
+}
+
+impl fmt::Display for TransformKind {
+    fn fmt<W: fmt::Write>(&self, f: &mut fmt::Formatter<W>) -> fmt::Result {
+        f.write_str(self.word())
+    }
 }
 
 /// Why two texts were not read as a transform.

@@ -78,3 +78,15 @@ fn a_destination_is_utf8(rt: HostRuntime) -> Result<(), Fail> {
     assert!(rt; is_fault(rt.alloc(), b"a", b"b.\xff.*", 2, BadDest));
     Ok(())
 }
+
+// A fault is told as its kind and its place.
+#[test]
+fn a_fault_has_a_line(rt: HostRuntime) -> Result<(), Fail> {
+    let fault = TransformFault::Bad {
+        place: 4,
+        kind: BadIndex,
+    };
+    let line = format!(in rt.alloc(); "{fault}")?;
+    assert_eq!(rt; line.as_str(), "BadIndex at 4");
+    Ok(())
+}

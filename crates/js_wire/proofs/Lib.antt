@@ -1,0 +1,16 @@
+mod Bytes
+mod Calendar
+mod Clock
+mod Dotted
+mod Floats
+mod Json
+mod Legality
+mod Numerals
+mod Pieces
+mod Plain
+mod PlainIs
+mod PlainRead
+mod Readings
+mod ToldRead
+mod Values
+mod Whole

@@ -1,0 +1,9 @@
+pub mod Carried
+pub mod Legal
+pub mod Messages
+pub mod Moments
+pub mod Payloads
+pub mod Reading
+pub mod Received
+pub mod Told
+pub mod Words

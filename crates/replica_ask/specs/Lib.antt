@@ -1,0 +1,3 @@
+pub mod Askers
+pub mod Filters
+pub mod Orders

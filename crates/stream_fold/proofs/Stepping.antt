@@ -19,11 +19,11 @@ use Rattle.stream_fold.proofs.Folds.{last-push, clock-push, bindings-push, stand
 use Rattle.stream_fold.proofs.Marking.{mark_in-with}
 use Rattle.stream_fold.proofs.Sending.{sent-step, number_or, number_or-either}
 
-either_assoc : {A : Type 0} (a b c : Option A) → either a (either b c) ≡ either (either a b) c
+pub either_assoc : {A : Type 0} (a b c : Option A) → either a (either b c) ≡ either (either a b) c
 either_assoc (Some x) b c = refl
 either_assoc None b c = refl
 
-either-None : {A : Type 0} (a : Option A) → either a None ≡ a
+pub either-None : {A : Type 0} (a : Option A) → either a None ≡ a
 either-None (Some x) = refl
 either-None None = refl
 
@@ -41,11 +41,11 @@ binding-step : (b : Bool) (to : BoundTo) (all first rest : Option BoundTo) → a
 binding-step true to all first rest e = refl
 binding-step false to all first rest e = e
 
-binding_at-append : (index : ℕ) (bs cs : List Binding) → binding_at index (bs ++ cs) ≡ either (binding_at index bs) (binding_at index cs)
+pub binding_at-append : (index : ℕ) (bs cs : List Binding) → binding_at index (bs ++ cs) ≡ either (binding_at index bs) (binding_at index cs)
 binding_at-append index [] cs = refl
 binding_at-append index (b ∷ bs) cs = binding-step (eqb b.index index) b.to (binding_at index (bs ++ cs)) (binding_at index bs) (binding_at index cs) (binding_at-append index bs cs)
 
-bound-push : (index : ℕ) (es : List Entry) (e : Entry) → bound index (es ++ e ∷ []) ≡ either (bound index es) (binding_at index (bound_by e))
+pub bound-push : (index : ℕ) (es : List Entry) (e : Entry) → bound index (es ++ e ∷ []) ≡ either (bound index es) (binding_at index (bound_by e))
 bound-push index es e = ap (binding_at index) (bindings-push es e) ∙ binding_at-append index (bindings es) (bound_by e)
 
 module _ (state : State) (h : History) (e : Entry) (s : StandsFor state h) where

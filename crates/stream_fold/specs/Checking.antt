@@ -1,11 +1,14 @@
 -- Which configurations a stream may have, and which member of another one is wrong (the stream
 -- configuration of JetStream).
 use Rattle.std.specs.Prelude.{◌≡◌, ℕ, ◌^◌, List, [], ◌∷◌, length, Bool, true, false, ◌&&◌, ◌||◌, not, ◌==◌, nat_lt, nat_le, if◌then◌else◌, Option, None, Some, is_some, Result, Ok, Err, codes}
-use Rattle.std.specs.List.{list_any}
+use Rattle.std.specs.List.{list_any, list_all}
 use Rattle.nats_text.specs.Matching.{overlap}
+use Rattle.nats_text.specs.Text.{is_pattern}
 use Rattle.nats_text.specs.declared.message.Start.{Start}
 use Rattle.nats_text.specs.declared.message.Start.TheVariants.{Seq, Time}
+use Rattle.nats_text.specs.declared.origin.Mapping.{Mapping}
 use Rattle.nats_text.specs.declared.origin.Origin.{Origin}
+use Rattle.subject_transform.specs.Transforms.{TransformTexts, is_transform, is_blank, without_blanks}
 use Rattle.stream_fold.specs.declared.config.Config.{Config}
 use Rattle.stream_fold.specs.declared.config.Discard.{Discard}
 use Rattle.stream_fold.specs.declared.config.Discard.TheVariants.{Old, New}
@@ -73,9 +76,39 @@ keeps_all_sizes c = is_old c.discard && (c.max_msg_size == 0)
 abbrev pub is_wrong_mirror : Config → Origin → Bool
 is_wrong_mirror c origin = is_some origin.filter || nat_lt 0 (length origin.maps) || nat_lt 0 (length c.subjects) || not (keeps_all_sizes c)
 
--- transforms of a source aren't built yet
+-- a text of at most 1,024 bytes
+abbrev pub is_short : List ℕ → Bool
+is_short text = nat_le (length text) 1024
+
+-- both texts have at most 1,024 bytes as they are written
+abbrev pub has_short_texts : Mapping → Bool
+has_short_texts m = is_short m.src && is_short m.dest
+
+-- the transform that the two texts are, with its destination without blanks, where they are one
+abbrev pub transform_in : Mapping → Option TransformTexts
+transform_in m = if is_transform m.src m.dest then Some (record { src = m.src; dest = without_blanks m.dest }) else None
+
+-- the two texts are a transform
+abbrev pub are_transform : Mapping → Bool
+are_transform m = is_transform m.src m.dest
+
+-- a destination of which nothing is left once its blanks are dropped: it leaves the subject
+abbrev pub leaves_subject : List ℕ → Bool
+leaves_subject dest = list_all is_blank dest
+
+-- a map that a source may have: a pattern and a destination that leaves the subject, or a transform
+abbrev pub is_legal_map : Mapping → Bool
+is_legal_map m = has_short_texts m && ((is_pattern m.src && leaves_subject m.dest) || are_transform m)
+
+-- both a filter and maps, more than 16 maps, or one that a source may not have
+abbrev pub has_wrong_maps : Origin → Bool
+has_wrong_maps origin =
+    (is_some origin.filter && nat_lt 0 (length origin.maps)) || nat_lt 16 (length origin.maps)
+    || not (list_all is_legal_map origin.maps)
+
+-- the first wrong member of a source: its start, and its filter and maps
 abbrev pub source_fault : Origin → Option (List ℕ)
-source_fault origin = either (start_fault origin.start) (wrong_if (nat_lt 0 (length origin.maps)) (codes "subject_transforms"))
+source_fault origin = either (start_fault origin.start) (wrong_if (has_wrong_maps origin) (codes "subject_transforms"))
 
 -- the first wrong member of the origins, in their order
 abbrev pub source_faults : List Origin → Option (List ℕ)
@@ -86,10 +119,14 @@ source_faults (origin ∷ origins) = either (source_fault origin) (source_faults
 abbrev pub are_wrong_sources : Config → List Origin → Bool
 are_wrong_sources c origins = (length origins == 0) || nat_lt 32 (length origins) || not (keeps_all_sizes c)
 
+-- the first wrong member of a mirror: the start of its origin, or the mirror itself
+abbrev pub mirror_fault : Config → Origin → Option (List ℕ)
+mirror_fault c origin = either (start_fault origin.start) (wrong_if (is_wrong_mirror c origin) (codes "mirror"))
+
 -- the first wrong member of the origins, or the list of them
 abbrev pub copies_fault : Config → Copies → Option (List ℕ)
 copies_fault c Nothing = None
-copies_fault c (Mirror origin) = either (start_fault origin.start) (wrong_if (is_wrong_mirror c origin) (codes "mirror"))
+copies_fault c (Mirror origin) = mirror_fault c origin
 copies_fault c (Sources origins) = either (source_faults origins) (wrong_if (are_wrong_sources c origins) (codes "sources"))
 
 -- the first of four limits that is too great
@@ -100,15 +137,21 @@ limits_fault c =
     (either (wrong_if (is_too_great c.max_per_subject) (codes "max_msgs_per_subject"))
     (wrong_if (is_too_great c.max_msg_size) (codes "max_msg_size"))))
 
+-- a stream's own transform that it may not have: one of a mirror, one with a longer text, or two texts
+-- that are no transform
+abbrev pub is_wrong_transform : Copies → Option Mapping → Bool
+is_wrong_transform copies None = false
+is_wrong_transform copies (Some m) = is_mirror copies || not (has_short_texts m) || not (are_transform m)
+
 -- The first wrong member of a configuration, by the name that it has in JetStream: the subjects, the
--- limits, the duplicate window, the origins, the transform, which isn't built yet.
+-- limits, the duplicate window, the origins, the stream's own transform.
 abbrev pub config_fault : Config → Option (List ℕ)
 config_fault c =
     either (wrong_if (has_wrong_subjects c) (codes "subjects"))
     (either (limits_fault c)
     (either (wrong_if (has_wrong_window c) (codes "duplicate_window"))
     (either (copies_fault c c.copies)
-    (wrong_if (is_some c.transform) (codes "subject_transform")))))
+    (wrong_if (is_wrong_transform c.copies c.transform) (codes "subject_transform")))))
 
 -- what is answered is the first wrong member, or that there is none, unless memory ran out
 abbrev pub IsFault : {T : Type 0} → Result T ConfigFault → Option (List ℕ) → Type 0

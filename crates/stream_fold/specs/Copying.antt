@@ -1,6 +1,6 @@
--- Copies: what they are bound to, where they start and how far they have come, and what a mirror
--- holds of its origin.
-use Rattle.std.specs.Prelude.{◌≡◌, ◌⊎◌, ℕ, ◌+◌, ◌-◌, ◌<◌, ◌≤◌, max, ◌==◌, nat_le, List, [], ◌∷◌, ◌++◌, if◌then◌else◌, Option, Some, None, slice_get}
+-- Copies: what they are bound to, where they start and how far they have come, and what a mirror and
+-- a source hold of their origin.
+use Rattle.std.specs.Prelude.{◌≡◌, ◌⊎◌, ℕ, ◌+◌, ◌-◌, ◌<◌, ◌≤◌, max, ◌==◌, nat_le, ⊤, List, [], ◌∷◌, ◌++◌, map, if◌then◌else◌, Option, Some, None, slice_get, All, Contains}
 use Rattle.nats_text.specs.declared.message.Message.{Message}
 use Rattle.nats_text.specs.declared.origin.Origin.{Origin}
 use Rattle.nats_text.specs.declared.message.Start.{Start}
@@ -13,7 +13,9 @@ use Rattle.stream_fold.specs.declared.parts.Binding.{Binding}
 use Rattle.stream_fold.specs.declared.entry.Mark.{Mark}
 use Rattle.stream_fold.specs.declared.config.Copies.{Copies}
 use Rattle.stream_fold.specs.declared.config.Copies.TheVariants.{Nothing, Mirror, Sources}
-use Rattle.stream_fold.specs.Histories.{History, either, put, last, kept, mark_of, stands, IsHole}
+use Rattle.stream_fold.specs.Histories.{History, either, put, last, number_put, kept, mark_of, stands, IsHole}
+use Rattle.stream_fold.specs.RowLists.{Rises}
+use Rattle.stream_fold.specs.Sourcing.{via}
 
 -- what this entry binds
 abbrev pub bound_by : Entry → List Binding
@@ -108,6 +110,93 @@ pub record IsLeftOut (origin : History) (copy : List Entry) (seq : ℕ) : Type 0
 pub record MirrorHolds (origin : History) (copy : List Entry) (start : ℕ) : Type 0 where
   pub below : (seq : ℕ) → seq < start → put seq copy ≡ None
   pub each : (seq : ℕ) → start ≤ seq → seq ≤ last copy → IsStored origin copy seq ⊎ IsLeftOut origin copy seq
+
+-- a message that a copy stored of a source, and its mark, which is its number in the origin
+pub record Stored : Type 0 where
+  pub mark : ℕ
+  pub message : Message
+
+-- a message with its mark, where it has one
+abbrev pub stored_under : Option ℕ → Message → List Stored
+stored_under None message = []
+stored_under (Some seq) message = (record { mark = seq; message = message }) ∷ []
+
+-- what this entry stores of the source of an index
+abbrev pub stored_by : ℕ → Entry → List Stored
+stored_by index (Put number message mark) = stored_under (mark_by index mark) message
+stored_by index (Del number) = []
+stored_by index (Purge pattern below) = []
+stored_by index (Expire now) = []
+stored_by index (Bind other incarnation start) = []
+stored_by index (Limits config) = []
+
+-- all that was stored of the source of an index, oldest first
+abbrev pub stored : ℕ → List Entry → List Stored
+stored index [] = []
+stored index (e ∷ es) = stored_by index e ++ stored index es
+
+-- the marks of what was stored of the source of an index
+abbrev pub marks : ℕ → List Entry → List ℕ
+marks index entries = map (λ (s : Stored). s.mark) (stored index entries)
+
+-- a Put has the number one past this one
+abbrev pub Follows : ℕ → Entry → Type 0
+Follows low (Put number message mark) = number ≡ low + 1
+Follows low (Del number) = ⊤
+Follows low (Purge pattern below) = ⊤
+Follows low (Expire now) = ⊤
+Follows low (Bind index incarnation start) = ⊤
+Follows low (Limits config) = ⊤
+
+-- each Put has the number one past this one, or past the last of those before it
+abbrev pub FollowFrom : ℕ → List Entry → Type 0
+FollowFrom low [] = ⊤
+FollowFrom low (e ∷ es) = Follows low e × FollowFrom (max low (number_put e)) es
+
+-- each Put has the number one past the last of those before it
+abbrev pub NumbersFollow : List Entry → Type 0
+NumbersFollow es = FollowFrom 0 es
+
+-- the message that the origin put under the mark, as the source makes it, but for its time
+pub record IsVia (want : Origin) (origin : History) (s : Stored) : Type 0 where
+  pub message : Message
+  pub there : put s.mark origin.entries ≡ Some message
+  pub made : via want message s.mark ≡ Some (record (s.message) { time = message.time })
+
+-- A copy has stored of the source of an index, once each and in their order, the messages that this
+-- source makes of its origin's, from its start to its mark, but for those of which the origin keeps
+-- none; and its own numbers have no gaps.
+pub record SourceHolds (want : Origin) (origin copy : History) (index : ℕ) : Type 0 where
+  pub rise : Rises (copy_start index copy) (marks index copy.entries)
+  pub follow : NumbersFollow copy.entries
+  pub each : All (IsVia want origin) (stored index copy.entries)
+  pub left_out : (seq : ℕ) (message made : Message) → copy_start index copy ≤ seq → seq ≤ mark index copy → put seq origin.entries ≡ Some message → via want message seq ≡ Some made → Contains (marks index copy.entries) seq ⊎ IsHole origin seq
+
+-- an entry that is neither a Put with a mark of the index nor a Bind of the index
+abbrev pub PassesBy : ℕ → Entry → Type 0
+PassesBy index (Put number message mark) = mark_by index mark ≡ None
+PassesBy index (Del number) = ⊤
+PassesBy index (Purge pattern below) = ⊤
+PassesBy index (Expire now) = ⊤
+PassesBy index (Bind other incarnation start) = ¬ (other ≡ index)
+PassesBy index (Limits config) = ⊤
+
+-- an entry that is no Put
+abbrev pub IsNoPut : Entry → Type 0
+IsNoPut (Put number message mark) = ⊥
+IsNoPut (Del number) = ⊤
+IsNoPut (Purge pattern below) = ⊤
+IsNoPut (Expire now) = ⊤
+IsNoPut (Bind index incarnation start) = ⊤
+IsNoPut (Limits config) = ⊤
+
+-- the numbers from one on and below another under which the origin put something are holes
+abbrev pub AreHolesFrom : History → ℕ → ℕ → Type 0
+AreHolesFrom origin low high = (seq : ℕ) (message : Message) → low ≤ seq → seq < high → put seq origin.entries ≡ Some message → IsHole origin seq
+
+-- what a source would store between two numbers are holes of its origin
+abbrev pub AreHolesBetween : Origin → History → ℕ → ℕ → Type 0
+AreHolesBetween want origin low high = (seq : ℕ) (message made : Message) → low < seq → seq < high → put seq origin.entries ≡ Some message → via want message seq ≡ Some made → IsHole origin seq
 
 -- the least kept number of a time at or after the moment, or the end
 abbrev pub number_since : ℕ → List Numbered → ℕ → ℕ

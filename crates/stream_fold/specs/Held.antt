@@ -11,9 +11,11 @@ use Rattle.stream_fold.specs.declared.entry.Entry.TheVariants.{Put, Del, Purge, 
 use Rattle.stream_fold.specs.declared.entry.Numbered.{Numbered}
 use Rattle.stream_fold.specs.declared.parts.Binding.{Binding}
 use Rattle.stream_fold.specs.declared.parts.Sent.{Sent}
+use Rattle.subject_transform.specs.Transforms.{TransformTexts}
 use Rattle.stream_fold.specs.Histories.{History, either, stands, kept, last, clock, size_of}
 use Rattle.stream_fold.specs.Copying.{bound, binding_at, last_mark, mark_in}
 use Rattle.stream_fold.specs.Publishing.{dup}
+use Rattle.stream_fold.specs.Transforming.{own_transform}
 
 -- The configuration in force, the duplicate window, the messages that are kept, the last number, the
 -- clock, and three lists that are looked up: what the indexes of the copies are bound to, the last
@@ -28,12 +30,13 @@ pub record Held : Type 0 where
   pub marks : List Mark
   pub sent : List Sent
 
--- What is held, how many entries may be taken without memory, and the identifier for which a place
--- is ready.
+-- What is held, how many entries may be taken without memory, the identifier for which a place is
+-- ready, and the transform that was read for a configuration to come.
 pub record State : Type 0 where
   pub held : Held
   pub room : ℕ
   pub spare : Option (List ℕ)
+  pub coming : Option TransformTexts
 
 -- ---- repeats, looked up
 
@@ -86,6 +89,15 @@ id_of (Expire now) = None
 id_of (Bind index incarnation start) = None
 id_of (Limits config) = None
 
+-- the transform that an entry brings
+abbrev pub transform_of : Entry → Option TransformTexts
+transform_of (Put number message mark) = None
+transform_of (Del number) = None
+transform_of (Purge pattern below) = None
+transform_of (Expire now) = None
+transform_of (Bind index incarnation start) = None
+transform_of (Limits config) = own_transform config.transform
+
 -- the size of the message of a Put
 abbrev pub size_put : Entry → ℕ
 size_put (Put number message mark) = size message
@@ -95,9 +107,10 @@ size_put (Expire now) = 0
 size_put (Bind index incarnation start) = 0
 size_put (Limits config) = 0
 
--- The entry may be taken without memory: there is a place for it and for its identifier, and the
--- sizes of what is kept and of its message have a sum of 64 bits.
+-- The entry may be taken without memory: there is a place for it and for its identifier, the transform
+-- that it brings is read, and the sizes of what is kept and of its message have a sum of 64 bits.
 pub record HasRoom (state : State) (e : Entry) : Type 0 where
   pub places : 0 < state.room
   pub id : state.spare ≡ id_of e
+  pub transform : state.coming ≡ transform_of e
   pub sizes : size_of state.held.rows + size_put e < 2 ^ 64

@@ -8,3 +8,7 @@ pub mod Laws
 pub mod Parts
 pub mod Publishing
 pub mod RowLists
+pub mod Sourcing
+pub mod Transforming
+pub mod Facts
+pub mod FactLaws

@@ -17,6 +17,7 @@ use Rattle.stream_fold.specs.Copying.{bound_by}
 use Rattle.stream_fold.specs.Held.{Held, State, id_of, repeated_in}
 use Rattle.stream_fold.specs.Publishing.{verdict_behind, earlier_refusal, later_refusal}
 use Rattle.stream_fold.specs.RowLists.{with_place, EachRow, seqs, Rises}
+use Rattle.stream_fold.specs.Transforming.{own_transform}
 
 abbrev pub held_in : Parts → Held
 held_in p = record {
@@ -37,7 +38,7 @@ room_in p =
     (min (vec_capacity p.marks - vec_len p.marks) (vec_capacity p.sent - vec_len p.sent))
 
 abbrev pub state_in : Parts → State
-state_in p = record { held = held_in p; room = room_in p; spare = p.spare }
+state_in p = record { held = held_in p; room = room_in p; spare = p.spare; coming = p.coming }
 
 -- the marks with this one in place of an earlier one of its index
 abbrev pub with_mark : Mark → List Mark → List Mark
@@ -102,3 +103,8 @@ pub record IsSettled (held : Held) : Type 0 where
   pub newest : ¬ (held.limits.max_per_subject ≡ 0) → AreNewest held.limits.max_per_subject held.rows
   pub rises : Rises 0 (seqs held.rows)
   pub below : EachRow (λ row. row.seq ≤ held.last) held.rows
+
+-- what is held is settled, and the transform that was read is that of the configuration in force
+pub record IsWhole (p : Parts) : Type 0 where
+  pub settled : IsSettled (held_in p)
+  pub transform : p.transform ≡ own_transform p.config.transform

@@ -68,7 +68,7 @@ impl Config {
         ensures { IsFault result (config_fault self.now) }
     {
         let own = own_subjects(alloc)?;
-        match wrong_member(self, &own) {
+        match wrong_member(alloc, self, &own)? {
             None => Ok(()),
             Some(member) => {
                 let member = Bytes::from_slice(alloc, member)?;

@@ -3,8 +3,10 @@
 #![tactic(auto)]
 
 mod config;
+mod decision;
 mod entry;
 pub mod laws;
+mod maps;
 mod parts;
 mod publish;
 mod rows;
@@ -15,6 +17,7 @@ mod verdict;
 mod wrong_member;
 
 pub use config::{Config, ConfigFault, Copies, Discard};
+pub use decision::{Decision, Reason, Why};
 pub use entry::{BoundTo, Entry, Mark, Numbered};
 pub use nats_text::{Mapping, Origin};
 pub use parts::{Binding, Sent};

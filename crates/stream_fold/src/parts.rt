@@ -3,7 +3,8 @@ ghost use Rattle.std.specs.Vec.{vec_capacity};
 ghost use Rattle.std.specs.Str.{bytes_eq};
 ghost use Rattle.nats_text.specs.Sizes.{size};
 ghost use Rattle.stream_fold.specs.Histories.{size_of};
-ghost use Rattle.stream_fold.specs.Held.{id_of, sent_id, size_put};
+ghost use Rattle.stream_fold.specs.Held.{id_of, sent_id, size_put, transform_of};
+ghost use Rattle.stream_fold.specs.Transforming.{own_transform};
 ghost use Rattle.stream_fold.specs.Parts.{held_in, room_in, changed_newest, with_message, with_mark, with_sent, still_open, IsSettled};
 
 use crate::rows::Rows;
@@ -11,6 +12,7 @@ use crate::trim::{drop_front, is_older};
 use crate::{BoundTo, Config, Entry, Mark, Numbered};
 use nats_text::{Bytes, Message, NoMemory};
 use std::alloc::Global;
+use subject_transform::Transform;
 
 /// What an index of a copy is bound to.
 #[derive(Clone, Copy, Debug, PartialEq, Eq)]
@@ -27,11 +29,13 @@ pub struct Sent {
     pub time: u64,
 }
 
-/// What a state is made of. `spare` is the identifier of the entry for which room was made.
+/// What a state is made of. `transform` is that of the configuration in force. `spare` is the identifier
+/// of the entry for which room was made, and `coming` the transform that it brings.
 #[derive(Debug, Drop)]
 pub struct Parts {
     pub alloc: Global,
     pub config: Config,
+    pub transform: Option<Transform>,
     pub window: u64,
     pub rows: Rows,
     pub last: u64,
@@ -40,12 +44,15 @@ pub struct Parts {
     pub marks: Vec<Mark>,
     pub sent: Vec<Sent>,
     pub spare: Option<Bytes>,
+    pub coming: Option<Transform>,
 }
 
 /// Makes room for one entry in each list.
 pub fn reserve_one(parts: &mut Parts) -> Result<(), NoMemory>
     ensures held { held_in parts.new ≡ held_in parts.old }
     ensures spare { parts.new.spare ≡ parts.old.spare }
+    ensures transform { parts.new.transform ≡ parts.old.transform }
+    ensures coming { parts.new.coming ≡ parts.old.coming }
     ensures room { room_in parts.old ≤ room_in parts.new }
     ensures ok { OnOk result (0 < room_in parts.new) }
 {
@@ -63,7 +70,10 @@ pub fn change(parts: &mut Parts, entry: Entry)
     requires room { 0 < room_in parts.old }
     requires spare { parts.old.spare ≡ id_of entry }
     requires sizes { size_of parts.old.rows.rows + size_put entry < 2 ^ 64 }
-    ensures { held_in parts.new ≡ changed_newest (held_in parts.old) entry }
+    requires transform { parts.old.transform ≡ own_transform parts.old.config.transform }
+    requires coming { parts.old.coming ≡ transform_of entry }
+    ensures held { held_in parts.new ≡ changed_newest (held_in parts.old) entry }
+    ensures transform { parts.new.transform ≡ own_transform parts.new.config.transform }
 {
     match entry {
         Entry::Put { seq, message, mark } => put(parts, seq, message, mark),
@@ -83,6 +93,7 @@ pub fn change(parts: &mut Parts, entry: Entry)
         }),
         Entry::Limits { config } => {
             parts.config = config;
+            parts.transform = parts.coming.take();
             parts.rows.keep_newest(parts.config.max_per_subject);
         }
     }
@@ -92,7 +103,8 @@ fn put(parts: &mut Parts, seq: u64, message: Message, mark: Option<Mark>)
     requires room { 0 < room_in parts.old }
     requires spare { parts.old.spare ≡ sent_id message mark }
     requires sizes { size_of parts.old.rows.rows + size message < 2 ^ 64 }
-    ensures { held_in parts.new ≡ with_message (held_in parts.old) (record { seq = seq; message = message }) mark }
+    ensures held { held_in parts.new ≡ with_message (held_in parts.old) (record { seq = seq; message = message }) mark }
+    ensures transform { parts.new.transform ≡ parts.old.transform }
 {
     let time = message.time;
     parts.last = parts.last.max(seq);

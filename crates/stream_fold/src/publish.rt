@@ -50,7 +50,7 @@ pub fn verdict(
     }
 }
 
-fn is_mirror(copies: &Copies) -> bool
+pub fn is_mirror(copies: &Copies) -> bool
     ensures { result ≡ is_mirror copies.now }
 {
     match copies {

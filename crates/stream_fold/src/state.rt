@@ -1,14 +1,16 @@
 ghost use Rattle.std.specs.Prelude.{◌≡◌, ◌<◌, ◌+◌, ◌^◌, ◌↔◌, [], length, IsTrue, IfOk, OnOk, OnErr};
-ghost use Rattle.std.specs.Option.{option_copied};
+ghost use Rattle.std.specs.Option.{option_copied, unwrap_or};
 ghost use Rattle.nats_text.specs.Sizes.{size};
 ghost use Rattle.stream_fold.specs.Histories.{History, with_entry, message_at, size_of};
 ghost use Rattle.stream_fold.specs.Copying.{binding_at, mark, mark_in, origin_named, start_of};
 ghost use Rattle.stream_fold.specs.Publishing.{GivesVerdict, verdict, last_of, next_match};
 ghost use Rattle.stream_fold.specs.declared.entry.Entry.{Entry};
 ghost use Rattle.stream_fold.specs.Fits.{Fits, KeepsMembers, index_count};
-ghost use Rattle.stream_fold.specs.Held.{StandsFor, HasRoom, first_of, id_of, sent_id, size_put};
+ghost use Rattle.stream_fold.specs.Held.{StandsFor, HasRoom, first_of, id_of, sent_id, size_put, transform_of};
 ghost use Rattle.stream_fold.specs.RowLists.{from_number, seqs, Rises};
+ghost use Rattle.stream_fold.specs.Transforming.{other_subject, own_transform, stored_subject};
 
+use crate::maps::transform_in;
 use crate::parts::{Parts, change, reserve_one};
 use crate::publish::{last_of, next_match, verdict};
 use crate::rows::{Rows, message_of, rows_from};
@@ -17,6 +19,7 @@ use crate::{BoundTo, Config, Copies, Entry, Mark, Numbered, Refusal, Verdict};
 use nats_text::{Bytes, List, Message, NoMemory, Origin, Pattern, Start, Subject};
 use std::alloc::Global;
 use std::marker::Model;
+use subject_transform::Transform;
 
 /// What a history leaves: the configuration in force, the messages that are kept, the last number,
 /// the clock, what the copies are bound to and how far they have come, and what clients sent lately.
@@ -28,13 +31,13 @@ pub struct StreamState {
 
 impl Model for StreamState {
     ghost use Rattle.stream_fold.specs.Held.{State};
-    ghost use Rattle.stream_fold.specs.Parts.{state_in, held_in, IsSettled};
+    ghost use Rattle.stream_fold.specs.Parts.{state_in, IsWhole};
 
     ghost Value = { State };
 
     ghost view = { λ s. state_in s.parts };
 
-    ghost invariant = { λ s. IsSettled (held_in s.parts) };
+    ghost invariant = { λ s. IsWhole s.parts };
 }
 
 impl StreamState {
@@ -43,10 +46,12 @@ impl StreamState {
         ensures { IfOk result (λ state. StandsFor state (record { config = config; entries = [] })) }
     {
         let window = config.window;
+        let transform = own_transform(alloc, &config)?;
         Ok(StreamState {
             parts: Parts {
                 alloc,
                 config,
+                transform,
                 window,
                 rows: Rows::new(alloc),
                 last: 0,
@@ -55,6 +60,7 @@ impl StreamState {
                 marks: Vec::new(alloc),
                 sent: Vec::new(alloc),
                 spare: None,
+                coming: None,
             },
         })
     }
@@ -154,9 +160,26 @@ impl StreamState {
         }
     }
 
-    /// What a publish of this message at this moment, in nanoseconds since 1970, is answered: whether
-    /// it is new or a repeat, or the first refusal of those in the order of [`Refusal`], where the test
-    /// for a repeat comes behind `WrongStream`.
+    /// The subject under which the stream stores a message that was published under this one, where its
+    /// transform makes one. `None`: the subject stays. Whether the stream takes a publish is asked of
+    /// the subject under which it came, and everything else of this one.
+    pub fn stored_subject(
+        &self,
+        alloc: Global,
+        subject: &Subject,
+    ) -> Result<Option<Subject>, NoMemory>
+        ensures other { IfOk result (λ other. other ≡ other_subject self.now.held.limits.transform subject.now) }
+        ensures stored { IfOk result (λ other. unwrap_or other subject.now ≡ stored_subject self.now.held.limits.transform subject.now) }
+    {
+        match &self.parts.transform {
+            None => Ok(None),
+            Some(transform) => transform.apply(alloc, subject),
+        }
+    }
+
+    /// What a publish of this message, under the subject under which it would be stored, at this moment,
+    /// in nanoseconds since 1970, is answered: whether it is new or a repeat, or the first refusal of
+    /// those in the order of [`Refusal`], where the test for a repeat comes behind `WrongStream`.
     pub fn check(&self, alloc: Global, message: &Message, now: u64) -> Result<Verdict, Refusal>
         ensures { (h : History) → StandsFor self.now h → GivesVerdict result (verdict h message.now now) }
     {
@@ -211,8 +234,10 @@ impl StreamState {
             return Err(NoMemory);
         }
         let spare = id_of(self.parts.alloc, entry)?;
+        let coming = transform_of(self.parts.alloc, entry)?;
         reserve_one(&mut self.parts)?;
         self.parts.spare = spare;
+        self.parts.coming = coming;
         Ok(())
     }
 
@@ -300,6 +325,29 @@ fn sent_id(alloc: Global, message: &Message, mark: Option<Mark>) -> Result<Optio
     match message.headers.get(b"Nats-Msg-Id") {
         Some(id) => Ok(Some(Bytes::from_slice(alloc, id)?)),
         None => Ok(None),
+    }
+}
+
+/// The transform that the entry brings.
+fn transform_of(alloc: Global, entry: &Entry) -> Result<Option<Transform>, NoMemory>
+    ensures { IfOk result (λ transform. transform ≡ transform_of entry.now) }
+{
+    match entry {
+        Entry::Put { .. } => Ok(None),
+        Entry::Del { .. } => Ok(None),
+        Entry::Purge { .. } => Ok(None),
+        Entry::Expire { .. } => Ok(None),
+        Entry::Bind { .. } => Ok(None),
+        Entry::Limits { config } => own_transform(alloc, config),
+    }
+}
+
+fn own_transform(alloc: Global, config: &Config) -> Result<Option<Transform>, NoMemory>
+    ensures { IfOk result (λ transform. transform ≡ own_transform config.now.transform) }
+{
+    match &config.transform {
+        None => Ok(None),
+        Some(map) => transform_in(alloc, map),
     }
 }
 

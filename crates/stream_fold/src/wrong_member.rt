@@ -2,33 +2,38 @@ ghost use Rattle.std.specs.Prelude.{◌≡◌, IfOk, length, nat_le, nat_lt, not
 ghost use Rattle.std.specs.List.{list_any};
 ghost use Rattle.std.specs.Option.{option_copied};
 ghost use Rattle.nats_text.specs.Matching.{overlap};
-ghost use Rattle.stream_fold.specs.Checking.{config_fault, limits_fault, copies_fault, source_faults, source_fault, start_fault, is_wrong_mirror, are_wrong_sources, has_wrong_subjects, has_wrong_window, keeps_all_sizes, is_copy, some_overlap, own_subjects, is_too_great};
+ghost use Rattle.stream_fold.specs.Checking.{config_fault, limits_fault, copies_fault, mirror_fault, source_faults, source_fault, start_fault, is_wrong_mirror, are_wrong_sources, has_wrong_subjects, has_wrong_window, keeps_all_sizes, is_copy, some_overlap, own_subjects, is_too_great};
 
+use crate::maps::{has_wrong_maps, has_wrong_transform};
 use crate::{Config, Copies, Discard};
 use nats_text::{NoMemory, Origin, Pattern, Start, TextFault, overlaps};
 use std::alloc::Global;
 
 /// The first wrong member of a configuration, by its name in JetStream.
-pub fn wrong_member(config: &Config, own: &Pattern) -> Option<&'static [u8]>
+pub fn wrong_member(
+    alloc: Global,
+    config: &Config,
+    own: &Pattern,
+) -> Result<Option<&'static [u8]>, NoMemory>
     requires { own.now ≡ own_subjects }
-    ensures { option_copied result ≡ config_fault config.now }
+    ensures { IfOk result (λ member. option_copied member ≡ config_fault config.now) }
 {
     if has_wrong_subjects(config, own) {
-        return Some(b"subjects");
+        return Ok(Some(b"subjects"));
     }
     if let Some(member) = wrong_limit(config) {
-        return Some(member);
+        return Ok(Some(member));
     }
     if has_wrong_window(config) {
-        return Some(b"duplicate_window");
+        return Ok(Some(b"duplicate_window"));
     }
-    if let Some(member) = wrong_copies(config) {
-        return Some(member);
+    if let Some(member) = wrong_copies(alloc, config)? {
+        return Ok(Some(member));
     }
-    if config.transform.is_some() {
-        return Some(b"subject_transform");
+    if has_wrong_transform(alloc, config)? {
+        return Ok(Some(b"subject_transform"));
     }
-    None
+    Ok(None)
 }
 
 /// The subjects under which a node itself speaks.
@@ -111,31 +116,35 @@ fn has_wrong_window(config: &Config) -> bool
     config.window == 0 || (config.max_age != 0 && config.max_age < config.window)
 }
 
-fn wrong_copies(config: &Config) -> Option<&'static [u8]>
-    ensures { option_copied result ≡ copies_fault config.now config.now.copies }
+fn wrong_copies(alloc: Global, config: &Config) -> Result<Option<&'static [u8]>, NoMemory>
+    ensures { IfOk result (λ member. option_copied member ≡ copies_fault config.now config.now.copies) }
 {
     match &config.copies {
-        Copies::Nothing => None,
-        Copies::Mirror(origin) => {
-            if let Some(member) = wrong_start(origin.start) {
-                return Some(member);
-            }
-            if is_wrong_mirror(config, origin) {
-                Some(b"mirror")
-            } else {
-                None
-            }
-        }
+        Copies::Nothing => Ok(None),
+        Copies::Mirror(origin) => Ok(wrong_mirror(config, origin)),
         Copies::Sources(origins) => {
-            if let Some(member) = wrong_source_of(origins.as_slice()) {
-                return Some(member);
+            if let Some(member) = wrong_source_of(alloc, origins.as_slice())? {
+                return Ok(Some(member));
             }
             if are_wrong_sources(config, origins.as_slice()) {
-                Some(b"sources")
+                Ok(Some(b"sources"))
             } else {
-                None
+                Ok(None)
             }
         }
+    }
+}
+
+fn wrong_mirror(config: &Config, origin: &Origin) -> Option<&'static [u8]>
+    ensures { option_copied result ≡ mirror_fault config.now origin.now }
+{
+    if let Some(member) = wrong_start(origin.start) {
+        return Some(member);
+    }
+    if is_wrong_mirror(config, origin) {
+        Some(b"mirror")
+    } else {
+        None
     }
 }
 
@@ -170,25 +179,25 @@ fn are_wrong_sources(config: &Config, origins: &[Origin]) -> bool
     origins.is_empty() || origins.len() > 32 || !keeps_all_sizes(config)
 }
 
-fn wrong_source_of(origins: &[Origin]) -> Option<&'static [u8]>
-    ensures { option_copied result ≡ source_faults origins.now }
+fn wrong_source_of(alloc: Global, origins: &[Origin]) -> Result<Option<&'static [u8]>, NoMemory>
+    ensures { IfOk result (λ member. option_copied member ≡ source_faults origins.now) }
 {
     for origin in origins {
-        if let Some(member) = wrong_source(origin) {
-            return Some(member);
+        if let Some(member) = wrong_source(alloc, origin)? {
+            return Ok(Some(member));
         }
     }
-    None
+    Ok(None)
 }
 
-fn wrong_source(origin: &Origin) -> Option<&'static [u8]>
-    ensures { option_copied result ≡ source_fault origin.now }
+fn wrong_source(alloc: Global, origin: &Origin) -> Result<Option<&'static [u8]>, NoMemory>
+    ensures { IfOk result (λ member. option_copied member ≡ source_fault origin.now) }
 {
     if let Some(member) = wrong_start(origin.start) {
-        return Some(member);
+        return Ok(Some(member));
     }
-    if !origin.maps.is_empty() {
-        return Some(b"subject_transforms");
+    if has_wrong_maps(alloc, origin)? {
+        return Ok(Some(b"subject_transforms"));
     }
-    None
+    Ok(None)
 }

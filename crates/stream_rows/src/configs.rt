@@ -5,7 +5,7 @@ use std::test::Fail;
 use stream_fold::{Config, ConfigFault};
 
 /// Whether this is the first wrong member, or none is where it is empty.
-fn is_wrong(alloc: Global, config: &Config, member: &[u8]) -> bool {
+pub fn is_wrong(alloc: Global, config: &Config, member: &[u8]) -> bool {
     match config.check(alloc) {
         Ok(()) => member.is_empty(),
         Err(ConfigFault::Bad { member: found }) => found.as_slice() == member,

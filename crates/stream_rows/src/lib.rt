@@ -8,6 +8,8 @@ mod entries;
 #[cfg(test)]
 mod histories;
 #[cfg(test)]
+mod maps;
+#[cfg(test)]
 mod publishes;
 #[cfg(test)]
 mod table;

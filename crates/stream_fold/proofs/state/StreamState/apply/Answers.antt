@@ -10,7 +10,10 @@ pub invariant_of-self : goal.invariant_of-self
 invariant_of-self c =
     let fits = c.requires.fits in
     let next = next_for c.args.self.now fits.0 c.args.entry fits.1 fits.2 in
-    settled_after (held_in c.self.inside.parts) _ c.args.entry (subst (λ (s : State). IsNext s.held.last c.args.entry) (sym c.self.view_is) next) c.self.invariant (search rules)
+    record {
+      settled = settled_after (held_in c.self.inside.parts) _ c.args.entry (subst (λ (s : State). IsNext s.held.last c.args.entry) (sym c.self.view_is) next) c.self.invariant.settled (search rules);
+      transform = search rules;
+    }
 
 pub returns : goal.returns
 returns c = record { history = stands_on c.args.self.now _ c.args.entry (search rules) }

@@ -1,0 +1,7 @@
+mod Counting
+mod Finding
+mod Holes
+mod Pumping
+mod Right
+mod Sending
+mod Windows

@@ -1,0 +1,6 @@
+pub mod Chains
+pub mod Counts
+pub mod Laws
+pub mod Progress
+pub mod Pumps
+pub mod Sends

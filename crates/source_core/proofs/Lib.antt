@@ -1,0 +1,4 @@
+pub mod Headers
+pub mod Legal
+pub mod Visible
+pub mod Words

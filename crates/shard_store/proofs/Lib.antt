@@ -4,3 +4,6 @@ pub mod LogBodies
 pub mod LogKnown
 pub mod LogSteps
 pub mod MapSteps
+pub mod Images
+pub mod Legality
+pub mod StepLeads

@@ -4,3 +4,9 @@ pub mod Legal
 pub mod Streams
 pub mod Stores
 pub mod Reads
+pub mod Images
+pub mod ImageLaws
+pub mod Views
+pub mod Answers
+pub mod Steps
+pub mod StepLaws

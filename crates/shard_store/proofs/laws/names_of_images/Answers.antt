@@ -1,0 +1,8 @@
+use Rattle.shard_store.proofs.Images.{names-rise, names-stand}
+use Rattle.shard_store.proofs.laws.names_of_images.Goals as goal
+
+pub returns-clause-rise : goal.returns-clause-rise
+returns-clause-rise c = names-rise
+
+pub returns-clause-stand : goal.returns-clause-stand
+returns-clause-stand c = names-stand

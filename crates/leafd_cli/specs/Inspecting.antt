@@ -5,10 +5,10 @@ use Rattle.std.specs.Io.KnownBytes.{Appends, Keeps}
 use Rattle.leaf_edges.specs.Causes.{AppendsPrefix}
 use Rattle.stream_fold.specs.declared.entry.Numbered.{Numbered}
 use Rattle.record_codec.specs.declared.records.Rec.{Rec}
-use Rattle.shard_store.specs.declared.facts.Facts.{Facts}
+use Rattle.shard_machine.specs.declared.facts.Facts.{Facts}
 use Rattle.shard_store.specs.declared.fault.Part.{Part}
 use Rattle.shard_store.specs.declared.fault.Part.TheVariants.{Main, Spare}
-use Rattle.shard_store.specs.Logs.{boot}
+use Rattle.shard_machine.specs.Logs.{boot}
 use Rattle.shard_store.specs.Streams.{AreStreams}
 use Rattle.shard_store.specs.Stores.{StoreHolds, AreShort, IsBadStore, IsTooLong}
 use Rattle.leafd_cli.specs.declared.status.Status.{Status}

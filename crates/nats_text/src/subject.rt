@@ -1,4 +1,5 @@
 ghost use Rattle.std.specs.Prelude.{◌≡◌, ℕ, false, IsTrue, IfOk};
+ghost use Rattle.std.specs.Prelude.{Some, None, if◌then◌else◌};
 ghost use Rattle.nats_text.specs.Places.{IsBadPlace};
 ghost use Rattle.nats_text.specs.Text.{is_subject};
 
@@ -58,6 +59,18 @@ impl Subject {
         Ok(Subject {
             bytes: Bytes::from_slice(alloc, bytes)?,
         })
+    }
+
+    /// Owned bytes as a subject, without a copy. `None` comes exactly where they are none; they are let go
+    /// then. It takes no memory.
+    pub fn of_bytes(bytes: Bytes) -> Option<Subject>
+        ensures { result ≡ if is_subject bytes then Some bytes else None }
+    {
+        if Subject::legal(bytes.as_slice()) {
+            Some(Subject { bytes })
+        } else {
+            None
+        }
     }
 
     /// A name as a subject of one token. It takes no memory.

@@ -2,8 +2,4 @@ pub mod AreaFaults
 pub mod Listing
 pub mod LogBodies
 pub mod LogKnown
-pub mod LogSteps
 pub mod MapSteps
-pub mod Images
-pub mod Legality
-pub mod StepLeads

@@ -5,9 +5,9 @@ use Rattle.std.proofs.lemmas.Option.{slice_get_read}
 use Rattle.record_codec.specs.declared.records.Rec.{Rec}
 use Rattle.record_codec.specs.Reading.{reading}
 use Rattle.shard_store.specs.declared.replay.Replay.{Replay}
-use Rattle.shard_store.specs.Legal.{IsLogOf, IsNoNext, MayFollow}
+use Rattle.shard_machine.specs.Legal.{IsLogOf, IsNoNext, MayFollow}
 use Rattle.shard_store.specs.Replays.{IsReplayOf}
-use Rattle.shard_store.proofs.LogSteps.{all_follow-snoc}
+use Rattle.shard_machine.proofs.LogSteps.{all_follow-snoc}
 
 log_of-snoc : (log : List Rec) (bodies : List (List ℕ)) (it : Rec) (body : List ℕ) → IsLogOf log bodies → reading body ≡ Ok it → MayFollow log it → IsLogOf (log ++ it ∷ []) (bodies ++ body ∷ [])
 log_of-snoc log bodies it body is spells may = record {

@@ -17,10 +17,10 @@ use Rattle.record_codec.specs.declared.records.Rec.TheVariants.{Boot, Create, Re
 use Rattle.shard_store.specs.declared.replay.Known.{Known}
 use Rattle.shard_store.specs.declared.replay.Standing.{Standing}
 use Rattle.shard_store.specs.declared.replay.Replay.{Replay}
-use Rattle.shard_store.specs.Logs.{Made, Named, boot, boot_after, named, recorded, live, incarnation, with_change}
-use Rattle.shard_store.specs.Legal.{HasFaultless, MayChange}
+use Rattle.shard_machine.specs.Logs.{Made, Named, boot, boot_after, named, recorded, live, incarnation, with_change}
+use Rattle.shard_machine.specs.Legal.{HasFaultless, MayChange}
 use Rattle.shard_store.specs.Replays.{found, Knows, StandsAs, StandsIf, IsReplayOf, Takes}
-use Rattle.shard_store.proofs.LogSteps.{boot-snoc, named_after-snoc, latest-snoc, length-snoc, to_last-snoc}
+use Rattle.shard_machine.proofs.LogSteps.{boot-snoc, named_after-snoc, latest-snoc, length-snoc, to_last-snoc}
 use Rattle.shard_store.proofs.MapSteps.{Puts}
 
 -- none stands

@@ -1,12 +1,4 @@
-pub mod Logs
 pub mod Replays
-pub mod Legal
 pub mod Streams
 pub mod Stores
 pub mod Reads
-pub mod Images
-pub mod ImageLaws
-pub mod Views
-pub mod Answers
-pub mod Steps
-pub mod StepLaws

@@ -7,15 +7,15 @@ use Rattle.stream_fold.specs.declared.entry.Numbered.{Numbered}
 use Rattle.stream_fold.specs.Histories.{kept}
 use Rattle.stream_fold.specs.Held.{StandsFor}
 use Rattle.record_codec.specs.declared.records.Rec.{Rec}
-use Rattle.shard_store.specs.declared.facts.Facts.{Facts}
+use Rattle.shard_machine.specs.declared.facts.Facts.{Facts}
 use Rattle.shard_store.specs.declared.fault.Part.{Part}
 use Rattle.shard_store.specs.declared.fault.Part.TheVariants.{Spare}
 use Rattle.shard_store.specs.declared.fault.StoreFault.{StoreFault}
 use Rattle.shard_store.specs.declared.fault.StoreFault.TheVariants.{ReadFault, BadJournal, TooLong, NoMemory}
 use Rattle.shard_store.specs.declared.replay.Replay.{Replay}
 use Rattle.shard_store.specs.declared.replay.Standing.{Standing}
-use Rattle.shard_store.specs.Logs.{Made, boot}
-use Rattle.shard_store.specs.Legal.{IsLogOf}
+use Rattle.shard_machine.specs.Logs.{Made, boot}
+use Rattle.shard_machine.specs.Legal.{IsLogOf}
 use Rattle.shard_store.specs.Streams.{AreStreams, facts_of}
 use Rattle.shard_store.specs.Replays.{IsReplayOf}
 use Rattle.shard_store.specs.Stores.{LacksGate, HasBadGate, HasNo, IsFirst, IsBadPair, OneCounts, IsWhole, bodies_of, OnSpares, SpareHas}

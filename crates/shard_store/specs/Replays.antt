@@ -12,8 +12,8 @@ use Rattle.shard_store.specs.declared.replay.Standing.{Standing}
 use Rattle.shard_store.specs.declared.replay.Replay.{Replay}
 use Rattle.shard_store.specs.declared.replay.Replayed.{Replayed}
 use Rattle.shard_store.specs.declared.replay.Replayed.TheVariants.{Log, Stops}
-use Rattle.shard_store.specs.Logs.{Made, Named, boot, named}
-use Rattle.shard_store.specs.Legal.{IsLogOf, IsNoNext, MayFollow}
+use Rattle.shard_machine.specs.Logs.{Made, Named, boot, named}
+use Rattle.shard_machine.specs.Legal.{IsLogOf, IsNoNext, MayFollow}
 
 -- what is held under a name
 abbrev pub found : List ℕ → BTreeMap (Vec ℕ) Known → Option Known

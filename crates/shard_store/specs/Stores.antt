@@ -5,13 +5,13 @@ use Rattle.gate_journal.specs.Areas.{AreaState, Holds, no_area, IsHeadless, max_
 use Rattle.gate_journal.specs.declared.area.Ending.TheVariants.{Closed, Missing, Unreadable}
 use Rattle.stream_fold.specs.declared.entry.Numbered.{Numbered}
 use Rattle.record_codec.specs.declared.records.Rec.{Rec}
-use Rattle.shard_store.specs.declared.facts.Facts.{Facts}
+use Rattle.shard_machine.specs.declared.facts.Facts.{Facts}
 use Rattle.shard_store.specs.declared.fault.Part.{Part}
 use Rattle.shard_store.specs.declared.fault.Part.TheVariants.{Main, Spare}
 use Rattle.shard_store.specs.declared.fault.StoreFault.{StoreFault}
 use Rattle.shard_store.specs.declared.fault.StoreFault.TheVariants.{ReadFault, BadJournal, TooLong, NoMemory}
-use Rattle.shard_store.specs.Logs.{boot}
-use Rattle.shard_store.specs.Legal.{IsLogOf, IsNoNext}
+use Rattle.shard_machine.specs.Logs.{boot}
+use Rattle.shard_machine.specs.Legal.{IsLogOf, IsNoNext}
 use Rattle.shard_store.specs.Streams.{AreStreams}
 
 -- the spare is there, and has it

@@ -11,9 +11,9 @@ use Rattle.stream_fold.specs.Histories.{History, stands, kept, last, size_of}
 use Rattle.stream_fold.specs.Copying.{front, mark}
 use Rattle.stream_fold.specs.Held.{first_of}
 use Rattle.record_codec.specs.declared.records.Rec.{Rec}
-use Rattle.shard_store.specs.declared.facts.CopyFact.{CopyFact}
-use Rattle.shard_store.specs.declared.facts.Facts.{Facts}
-use Rattle.shard_store.specs.Logs.{Made, incarnation, live}
+use Rattle.shard_machine.specs.declared.facts.CopyFact.{CopyFact}
+use Rattle.shard_machine.specs.declared.facts.Facts.{Facts}
+use Rattle.shard_machine.specs.Logs.{Made, incarnation, live}
 
 -- the copy of an origin has come as far as this number
 abbrev pub copy_fact : ℕ → Origin → CopyFact

@@ -4,7 +4,7 @@ ghost use Rattle.leaf_edges.specs.Disks.{Unchanged, Elapses};
 ghost use Rattle.record_codec.specs.declared.records.Rec.{Rec as Record};
 ghost use Rattle.shard_store.specs.declared.fault.Part.TheVariants.{Main};
 ghost use Rattle.shard_store.specs.declared.fault.StoreFault.TheVariants.{BadJournal};
-ghost use Rattle.shard_store.specs.Legal.{IsLegal};
+ghost use Rattle.shard_machine.specs.Legal.{IsLegal};
 ghost use Rattle.shard_store.specs.Replays.{IsReplayOf};
 ghost use Rattle.shard_store.specs.Stores.{ReadsStore, OnSpares, StoreCauses};
 ghost use Rattle.shard_store.specs.Reads.{FindsArea, FindsSpare, FindCauses, SpareCauses, IsNoDiskFault, ReadsAreas, FindsGates, ReadsLog, ShowsLog};

@@ -6,8 +6,8 @@ ghost use Rattle.stream_fold.specs.Fits.{Fits};
 ghost use Rattle.stream_fold.specs.Held.{StandsFor};
 ghost use Rattle.record_codec.specs.declared.records.Rec.{Rec as Record};
 ghost use Rattle.record_codec.specs.Reading.{reading};
-ghost use Rattle.shard_store.specs.Logs.{Made, boot, incarnation, live, named};
-ghost use Rattle.shard_store.specs.Legal.{HasFaultless, IsLegal, IsNoNext, MayChange, MayFollow};
+ghost use Rattle.shard_machine.specs.Logs.{Made, boot, incarnation, live, named};
+ghost use Rattle.shard_machine.specs.Legal.{HasFaultless, IsLegal, IsNoNext, MayChange, MayFollow};
 ghost use Rattle.shard_store.specs.Replays.{found, IsReplayOf, Knows, Takes, Replays};
 
 use nats_text::{Bytes, Name, NoMemory};

@@ -95,19 +95,8 @@ impl Transform {
             self.dest.as_slice(),
             subject.bytes(),
         )? {
-            Some(text) => subject_of(alloc, text.as_slice()),
+            Some(text) => Ok(Subject::of_bytes(text)),
             None => Ok(None),
         }
-    }
-}
-
-// The bytes as a subject, where they are one.
-fn subject_of(alloc: Global, text: &[u8]) -> Result<Option<Subject>, NoMemory>
-    ensures { IfOk result (λ it. it ≡ if_subject text.now) }
-{
-    match Subject::read(alloc, text) {
-        Ok(subject) => Ok(Some(subject)),
-        Err(TextFault::Bad { .. }) => Ok(None),
-        Err(TextFault::NoMemory) => Err(NoMemory),
     }
 }

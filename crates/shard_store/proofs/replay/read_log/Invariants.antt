@@ -1,6 +1,6 @@
 use Rattle.std.proofs.Common.{List, take}
 use Rattle.record_codec.specs.declared.records.Rec.{Rec}
-use Rattle.shard_store.specs.Legal.{IsLogOf}
+use Rattle.shard_machine.specs.Legal.{IsLogOf}
 use Rattle.shard_store.specs.Replays.{IsReplayOf}
 use Rattle.shard_store.proofs.replay.read_log.Given as goal
 

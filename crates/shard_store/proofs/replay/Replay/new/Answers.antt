@@ -1,5 +1,5 @@
 use Rattle.std.proofs.Common.{refl}
-use Rattle.shard_store.specs.Logs.{boot_after, named_after}
+use Rattle.shard_machine.specs.Logs.{boot_after, named_after}
 use Rattle.shard_store.proofs.replay.Replay.new.Goals as goal
 
 pub returns : goal.returns

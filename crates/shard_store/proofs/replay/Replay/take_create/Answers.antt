@@ -1,6 +1,6 @@
 use Rattle.std.proofs.Common.{arith, rules, ◌≡◌, ◌≤◌, None}
 use Rattle.stream_fold.specs.Checking.{config_fault}
-use Rattle.shard_store.specs.Logs.{boot}
+use Rattle.shard_machine.specs.Logs.{boot}
 use Rattle.shard_store.proofs.LogKnown.{takes_create}
 use Rattle.shard_store.proofs.replay.Replay.take_create.Goals as goal
 

@@ -1,5 +1,5 @@
 use Rattle.std.proofs.Common.{refl, sym, arith, ◌≡◌, ◌≤◌, Some}
-use Rattle.shard_store.specs.Logs.{boot}
+use Rattle.shard_machine.specs.Logs.{boot}
 use Rattle.shard_store.specs.Replays.{found}
 use Rattle.shard_store.proofs.MapSteps.{writes}
 use Rattle.shard_store.proofs.LogKnown.{takes_remove}

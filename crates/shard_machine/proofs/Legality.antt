@@ -11,11 +11,11 @@ use Rattle.stream_fold.specs.Fits.{Fits, FitAfter, AllFit}
 use Rattle.stream_fold.proofs.FactLemmas.{tell-fits}
 use Rattle.record_codec.specs.declared.records.Rec.{Rec}
 use Rattle.record_codec.specs.declared.records.Rec.TheVariants.{Boot, Create, Remove, Of}
-use Rattle.shard_store.specs.Logs.{Made, Named, with_change, to_last, recorded, named_after, named, incarnation, by_incarnation, live}
-use Rattle.shard_store.specs.Legal.{MayChange, MayMake, MayFollow, MayAllFollow, IsLegal}
-use Rattle.shard_store.specs.Images.{NameFacts, image, live_in, known_of, MayMakeIn, MayChangeIn, MayFollowImage}
-use Rattle.shard_store.proofs.Images.{NameSays, name-says, images-tell}
-use Rattle.shard_store.proofs.LogSteps.{named_after-snoc, to_last-snoc, latest-snoc}
+use Rattle.shard_machine.specs.Logs.{Made, Named, with_change, to_last, recorded, named_after, named, incarnation, by_incarnation, live}
+use Rattle.shard_machine.specs.Legal.{MayChange, MayMake, MayFollow, MayAllFollow, IsLegal}
+use Rattle.shard_machine.specs.Images.{NameFacts, image, live_in, known_of, MayMakeIn, MayChangeIn, MayFollowImage}
+use Rattle.shard_machine.proofs.Images.{NameSays, name-says, images-tell}
+use Rattle.shard_machine.proofs.LogSteps.{named_after-snoc, to_last-snoc, latest-snoc}
 
 -- ---- by the image
 

@@ -2,15 +2,15 @@
 use Rattle.std.proofs.Common.{◌≡◌, Bool, true, false, List, [], ◌∷◌, ◌++◌, Option, refl, sym, ap, ◌∙◌, ◌⊎◌, inl, inr}
 use Rattle.stream_fold.specs.declared.entry.Entry.{Entry}
 use Rattle.record_codec.specs.declared.records.Rec.{Rec}
-use Rattle.shard_store.specs.declared.call.ShardCall.{ShardCall}
-use Rattle.shard_store.specs.declared.reply.Outcome.{Outcome}
-use Rattle.shard_store.specs.declared.reply.Outcome.TheVariants as outcome
-use Rattle.shard_store.specs.declared.reply.ShardRefusal.{ShardRefusal}
-use Rattle.shard_store.specs.declared.reply.ShardRefusal.TheVariants as refusal
-use Rattle.shard_store.specs.declared.reply.ShardReply.{ShardReply}
-use Rattle.shard_store.specs.Images.{image, image_after, no_image}
-use Rattle.shard_store.specs.Steps.{Held, Loads, IsReady, Succeeds, IsTurnedDown, LacksRoom, LacksRoomToLoad, CannotLoad, Faults, FailsToLoad, StaysOrLoads, Refuses, RefusesWith, StepTo, Step}
-use Rattle.shard_store.proofs.Images.{image_after-append}
+use Rattle.shard_machine.specs.declared.call.ShardCall.{ShardCall}
+use Rattle.shard_machine.specs.declared.reply.Outcome.{Outcome}
+use Rattle.shard_machine.specs.declared.reply.Outcome.TheVariants as outcome
+use Rattle.shard_machine.specs.declared.reply.ShardRefusal.{ShardRefusal}
+use Rattle.shard_machine.specs.declared.reply.ShardRefusal.TheVariants as refusal
+use Rattle.shard_machine.specs.declared.reply.ShardReply.{ShardReply}
+use Rattle.shard_machine.specs.Images.{image, image_after, no_image}
+use Rattle.shard_machine.specs.Steps.{Held, Loads, IsReady, Succeeds, IsTurnedDown, LacksRoom, LacksRoomToLoad, CannotLoad, Faults, FailsToLoad, StaysOrLoads, Refuses, RefusesWith, StepTo, Step}
+use Rattle.shard_machine.proofs.Images.{image_after-append}
 
 Leads : Held → List Rec → Held → Type 0
 Leads old records new = new.image ≡ image_after old.image records

@@ -1,5 +1,5 @@
-use Rattle.shard_store.proofs.Legality.{tell-legal, legal-fit}
-use Rattle.shard_store.proofs.laws.legality_by_images.Goals as goal
+use Rattle.shard_machine.proofs.Legality.{tell-legal, legal-fit}
+use Rattle.shard_machine.proofs.laws.legality_by_images.Goals as goal
 
 pub returns-clause-follow : goal.returns-clause-follow
 returns-clause-follow c = tell-legal

@@ -1,7 +1,7 @@
 //! Laws of the definitions that the contracts of this crate cite. Each function does nothing: what it
 //! ensures holds of all logs.
-ghost use Rattle.shard_store.specs.ImageLaws.{ImageGrows, ImagesTell, NamesRise, NamesStand, ImagesTellLegal, LegalFit};
-ghost use Rattle.shard_store.specs.StepLaws.{StepsLead, StepsFollowLogs};
+ghost use Rattle.shard_machine.specs.ImageLaws.{ImageGrows, ImagesTell, NamesRise, NamesStand, ImagesTellLegal, LegalFit};
+ghost use Rattle.shard_machine.specs.StepLaws.{StepsLead, StepsFollowLogs};
 
 /// The image of a log answers what is asked of it, and after one record more it is a function of what
 /// it was. So whoever holds the image needs no record again.

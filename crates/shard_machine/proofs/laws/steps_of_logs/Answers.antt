@@ -1,5 +1,5 @@
-use Rattle.shard_store.proofs.StepLeads.{step-leads, step-follows}
-use Rattle.shard_store.proofs.laws.steps_of_logs.Goals as goal
+use Rattle.shard_machine.proofs.StepLeads.{step-leads, step-follows}
+use Rattle.shard_machine.proofs.laws.steps_of_logs.Goals as goal
 
 pub returns-clause-lead : goal.returns-clause-lead
 returns-clause-lead c = step-leads

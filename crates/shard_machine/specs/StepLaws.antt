@@ -1,10 +1,10 @@
 -- What a step of a shard does to the log for which the shard stands.
 use Rattle.std.specs.Prelude.{◌≡◌, List, ◌++◌}
 use Rattle.record_codec.specs.declared.records.Rec.{Rec}
-use Rattle.shard_store.specs.declared.call.ShardCall.{ShardCall}
-use Rattle.shard_store.specs.declared.reply.ShardReply.{ShardReply}
-use Rattle.shard_store.specs.Images.{image, image_after}
-use Rattle.shard_store.specs.Steps.{Held, Step}
+use Rattle.shard_machine.specs.declared.call.ShardCall.{ShardCall}
+use Rattle.shard_machine.specs.declared.reply.ShardReply.{ShardReply}
+use Rattle.shard_machine.specs.Images.{image, image_after}
+use Rattle.shard_machine.specs.Steps.{Held, Step}
 
 -- the records of a step lead from the image that is held before it to the one that is held after it
 abbrev pub StepsLead : Type 0

@@ -18,10 +18,10 @@ use Rattle.stream_fold.specs.Facts.{StreamFacts, facts_after, facts}
 use Rattle.stream_fold.proofs.FactLemmas.{at_text, facts-push}
 use Rattle.record_codec.specs.declared.records.Rec.{Rec}
 use Rattle.record_codec.specs.declared.records.Rec.TheVariants.{Boot, Create, Remove, Of}
-use Rattle.shard_store.specs.Logs.{Made, Named, unnamed, boot_after, with_change, to_last, recorded, named_after, named, incarnation, by_incarnation, live}
-use Rattle.shard_store.specs.Images.{NameFacts, Names, LogImage, no_image, count_of, just_made, removed, entered, changed, names_after, next, image_after, image, if_stands, live_in, live_names, known_of}
-use Rattle.shard_store.specs.ImageLaws.{TellsOf}
-use Rattle.shard_store.proofs.LogSteps.{to_last-snoc, length-snoc, latest-snoc}
+use Rattle.shard_machine.specs.Logs.{Made, Named, unnamed, boot_after, with_change, to_last, recorded, named_after, named, incarnation, by_incarnation, live}
+use Rattle.shard_machine.specs.Images.{NameFacts, Names, LogImage, no_image, count_of, just_made, removed, entered, changed, names_after, next, image_after, image, if_stands, live_in, live_names, known_of}
+use Rattle.shard_machine.specs.ImageLaws.{TellsOf}
+use Rattle.shard_machine.proofs.LogSteps.{to_last-snoc, length-snoc, latest-snoc}
 
 -- ---- one record more
 

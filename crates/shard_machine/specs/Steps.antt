@@ -9,16 +9,16 @@ use Rattle.record_codec.specs.Spelling.{spelling}
 use Rattle.record_codec.specs.declared.records.Rec.{Rec}
 use Rattle.record_codec.specs.declared.records.Rec.TheVariants.{Boot, Create, Remove, Of}
 use Rattle.push_consumer.specs.Progress.{ConsumerState}
-use Rattle.shard_store.specs.declared.call.ShardCall.{ShardCall}
-use Rattle.shard_store.specs.declared.call.ShardCall.TheVariants as call
-use Rattle.shard_store.specs.declared.reply.Outcome.{Outcome}
-use Rattle.shard_store.specs.declared.reply.Outcome.TheVariants as outcome
-use Rattle.shard_store.specs.declared.reply.ShardRefusal.{ShardRefusal}
-use Rattle.shard_store.specs.declared.reply.ShardRefusal.TheVariants as refusal
-use Rattle.shard_store.specs.declared.reply.ShardReply.{ShardReply}
-use Rattle.shard_store.specs.Images.{LogImage, image_after, incarnation_in}
-use Rattle.shard_store.specs.Views.{View, Effect, Askers, idle_askers, replied}
-use Rattle.shard_store.specs.Answers.{Answers}
+use Rattle.shard_machine.specs.declared.call.ShardCall.{ShardCall}
+use Rattle.shard_machine.specs.declared.call.ShardCall.TheVariants as call
+use Rattle.shard_machine.specs.declared.reply.Outcome.{Outcome}
+use Rattle.shard_machine.specs.declared.reply.Outcome.TheVariants as outcome
+use Rattle.shard_machine.specs.declared.reply.ShardRefusal.{ShardRefusal}
+use Rattle.shard_machine.specs.declared.reply.ShardRefusal.TheVariants as refusal
+use Rattle.shard_machine.specs.declared.reply.ShardReply.{ShardReply}
+use Rattle.shard_machine.specs.Images.{LogImage, image_after, incarnation_in}
+use Rattle.shard_machine.specs.Views.{View, Effect, Askers, idle_askers, replied}
+use Rattle.shard_machine.specs.Answers.{Answers}
 
 -- What a shard holds, loaded or not: beside its view the record of which it isn't known whether the
 -- journal has it, and where the journal ends, which is the place of its closed gate. Image and end are those

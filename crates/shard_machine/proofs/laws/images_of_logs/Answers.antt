@@ -1,5 +1,5 @@
-use Rattle.shard_store.proofs.Images.{image-push, images-tell}
-use Rattle.shard_store.proofs.laws.images_of_logs.Goals as goal
+use Rattle.shard_machine.proofs.Images.{image-push, images-tell}
+use Rattle.shard_machine.proofs.laws.images_of_logs.Goals as goal
 
 pub returns-clause-grows : goal.returns-clause-grows
 returns-clause-grows c = image-push

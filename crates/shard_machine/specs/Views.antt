@@ -26,9 +26,9 @@ use Rattle.replica_ask.specs.Filters.{filters_of}
 use Rattle.replica_ask.specs.declared.phase.Phase.TheVariants.{Idle}
 use Rattle.tap_row.specs.declared.notice.Notice.{Notice}
 use Rattle.tap_row.specs.declared.notice.Notice.TheVariants.{Stored, Removed}
-use Rattle.shard_store.specs.declared.reply.Outcome.{Outcome}
-use Rattle.shard_store.specs.declared.reply.ShardReply.{ShardReply}
-use Rattle.shard_store.specs.Images.{LogImage, NameFacts, live_in, live_names}
+use Rattle.shard_machine.specs.declared.reply.Outcome.{Outcome}
+use Rattle.shard_machine.specs.declared.reply.ShardReply.{ShardReply}
+use Rattle.shard_machine.specs.Images.{LogImage, NameFacts, live_in, live_names}
 
 -- the askers of one stream, by the index of their origin
 abbrev pub StreamAskers : Type 0
@@ -213,4 +213,4 @@ writes v name f e what = record { reply = replied what (Some e) [] (entry_notice
 
 -- packets are sent, and what is held beside the log changes
 abbrev pub sends : View → List Packet → List ConsumerState → Askers → Effect
-sends v sent then_consumers then_askers = record { reply = replied Rattle.shard_store.specs.declared.reply.Outcome.TheVariants.Sent None sent []; records = []; given = v.given; consumers = then_consumers; askers = then_askers }
+sends v sent then_consumers then_askers = record { reply = replied Rattle.shard_machine.specs.declared.reply.Outcome.TheVariants.Sent None sent []; records = []; given = v.given; consumers = then_consumers; askers = then_askers }

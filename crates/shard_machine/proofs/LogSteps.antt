@@ -3,8 +3,8 @@ use Rattle.std.proofs.Common.{◌≡◌, ℕ, List, [], ◌∷◌, ◌++◌, len
 use Rattle.stream_fold.specs.declared.entry.Entry.{Entry}
 use Rattle.record_codec.specs.declared.records.Rec.{Rec}
 use Rattle.record_codec.specs.declared.records.Rec.TheVariants.{Boot, Create, Remove, Of}
-use Rattle.shard_store.specs.Logs.{Made, Named, boot_after, named_after, recorded, by_incarnation, to_last, with_change}
-use Rattle.shard_store.specs.Legal.{MayFollow, MayAllFollow}
+use Rattle.shard_machine.specs.Logs.{Made, Named, boot_after, named_after, recorded, by_incarnation, to_last, with_change}
+use Rattle.shard_machine.specs.Legal.{MayFollow, MayAllFollow}
 
 -- ---- what is read off a log with one record more
 

@@ -9,8 +9,8 @@ use Rattle.stream_fold.specs.Checking.{config_fault}
 use Rattle.stream_fold.specs.Facts.{StreamFacts, new_facts, facts_after, facts, FitsFacts}
 use Rattle.record_codec.specs.declared.records.Rec.{Rec}
 use Rattle.record_codec.specs.declared.records.Rec.TheVariants.{Boot, Create, Remove, Of}
-use Rattle.shard_store.specs.Logs.{Made}
-use Rattle.shard_store.specs.Legal.{HasFaultless}
+use Rattle.shard_machine.specs.Logs.{Made}
+use Rattle.shard_machine.specs.Legal.{HasFaultless}
 
 -- What is known of a name under which streams were made: when the latest of them was made, in
 -- nanoseconds since 1970, how many they are, which is its incarnation, whether it stands, and its facts,

@@ -8,9 +8,9 @@ use Rattle.std.specs.Cmp.Lexicographic.{slice_cmp}
 use Rattle.std.specs.Str.{bytes_eq}
 use Rattle.record_codec.specs.declared.records.Rec.{Rec}
 use Rattle.stream_fold.specs.Fits.{AllFit}
-use Rattle.shard_store.specs.Logs.{Made, boot, incarnation, made, live}
-use Rattle.shard_store.specs.Legal.{MayFollow, IsLegal}
-use Rattle.shard_store.specs.Images.{LogImage, next, image, live_in, incarnation_in, created_in, live_names, known_of, MayFollowImage}
+use Rattle.shard_machine.specs.Logs.{Made, boot, incarnation, made, live}
+use Rattle.shard_machine.specs.Legal.{MayFollow, IsLegal}
+use Rattle.shard_machine.specs.Images.{LogImage, next, image, live_in, incarnation_in, created_in, live_names, known_of, MayFollowImage}
 
 -- the image after a record is a function of the image before it
 abbrev pub ImageGrows : Type 0

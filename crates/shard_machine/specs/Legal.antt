@@ -8,7 +8,7 @@ use Rattle.stream_fold.specs.Fits.{Fits}
 use Rattle.record_codec.specs.declared.records.Rec.{Rec}
 use Rattle.record_codec.specs.declared.records.Rec.TheVariants.{Boot, Create, Remove, Of}
 use Rattle.record_codec.specs.Reading.{reading}
-use Rattle.shard_store.specs.Logs.{Made, boot, incarnation, live}
+use Rattle.shard_machine.specs.Logs.{Made, boot, incarnation, live}
 
 -- a configuration that changes the limits is one that a stream may have
 abbrev pub HasFaultless : Entry → Type 0

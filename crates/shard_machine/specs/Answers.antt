@@ -46,18 +46,18 @@ use Rattle.record_codec.specs.declared.records.Rec.{Rec}
 use Rattle.record_codec.specs.declared.records.Rec.TheVariants.{Create, Remove, Of}
 use Rattle.tap_row.specs.declared.notice.Notice.{Notice}
 use Rattle.tap_row.specs.declared.notice.Notice.TheVariants.{Bound as BoundNotice, AskedAgain, Stopped as StoppedNotice}
-use Rattle.shard_store.specs.declared.call.ShardCall.{ShardCall}
-use Rattle.shard_store.specs.declared.call.ShardCall.TheVariants as call
-use Rattle.shard_store.specs.declared.call.Which.{Which}
-use Rattle.shard_store.specs.declared.call.Which.TheVariants.{Seq as BySeq, LastOf}
-use Rattle.shard_store.specs.declared.facts.CopyFact.{CopyFact}
-use Rattle.shard_store.specs.declared.facts.Facts.{Facts}
-use Rattle.shard_store.specs.declared.reply.Outcome.{Outcome}
-use Rattle.shard_store.specs.declared.reply.Outcome.TheVariants as outcome
-use Rattle.shard_store.specs.declared.reply.ShardRefusal.{ShardRefusal}
-use Rattle.shard_store.specs.declared.reply.ShardRefusal.TheVariants as refusal
-use Rattle.shard_store.specs.Images.{LogImage, NameFacts, next, live_in, live_names}
-use Rattle.shard_store.specs.Views.{View, Effect, Askers, Copy, copies_of, copies_under, all_copies, reached, node_or, id_of, asker_of, with_asker, idle_askers, idle_under, asks_of, with_all_asked, ask_of, with_asked, entry_notices, replied, reads, writes, sends}
+use Rattle.shard_machine.specs.declared.call.ShardCall.{ShardCall}
+use Rattle.shard_machine.specs.declared.call.ShardCall.TheVariants as call
+use Rattle.shard_machine.specs.declared.call.Which.{Which}
+use Rattle.shard_machine.specs.declared.call.Which.TheVariants.{Seq as BySeq, LastOf}
+use Rattle.shard_machine.specs.declared.facts.CopyFact.{CopyFact}
+use Rattle.shard_machine.specs.declared.facts.Facts.{Facts}
+use Rattle.shard_machine.specs.declared.reply.Outcome.{Outcome}
+use Rattle.shard_machine.specs.declared.reply.Outcome.TheVariants as outcome
+use Rattle.shard_machine.specs.declared.reply.ShardRefusal.{ShardRefusal}
+use Rattle.shard_machine.specs.declared.reply.ShardRefusal.TheVariants as refusal
+use Rattle.shard_machine.specs.Images.{LogImage, NameFacts, next, live_in, live_names}
+use Rattle.shard_machine.specs.Views.{View, Effect, Askers, Copy, copies_of, copies_under, all_copies, reached, node_or, id_of, asker_of, with_asker, idle_askers, idle_under, asks_of, with_all_asked, ask_of, with_asked, entry_notices, replied, reads, writes, sends}
 
 -- what a call is answered
 abbrev pub Answered : Type 0

@@ -1,5 +1,5 @@
-use Rattle.shard_store.proofs.Images.{names-rise, names-stand}
-use Rattle.shard_store.proofs.laws.names_of_images.Goals as goal
+use Rattle.shard_machine.proofs.Images.{names-rise, names-stand}
+use Rattle.shard_machine.proofs.laws.names_of_images.Goals as goal
 
 pub returns-clause-rise : goal.returns-clause-rise
 returns-clause-rise c = names-rise

@@ -1,0 +1,4 @@
+pub mod LogSteps
+pub mod Images
+pub mod Legality
+pub mod StepLeads

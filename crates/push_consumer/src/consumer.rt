@@ -1,7 +1,7 @@
 ghost use Rattle.std.specs.Prelude.{◌≡◌, ◌+◌, IfOk, OnOk, OnErr, true, false};
 ghost use Rattle.js_wire.specs.declared.packet.Packet.{Packet};
 ghost use Rattle.push_consumer.specs.Counts.{progress_in, IsSound};
-ghost use Rattle.push_consumer.specs.Progress.{ConsumerState, new_consumer, outstanding, answered_by, beat, beat_at, after_beat};
+ghost use Rattle.push_consumer.specs.Progress.{ConsumerState, new_consumer, outstanding, answered_by, beat, beats, beat_at, after_beat};
 ghost use Rattle.push_consumer.specs.Pumps.{packets_sent, rows_sent, pump_packets, pumped};
 ghost use Rattle.push_consumer.specs.Progress.{after_rows};
 ghost use Rattle.push_consumer.specs.Sends.{to_send};
@@ -20,7 +20,7 @@ const BEAT: u64 = 5_000_000_000;
 
 /// What an origin sends to one copy, for one attempt of it. It holds how far it has come and not what
 /// it sent, so that its memory doesn't grow.
-#[derive(Debug, Drop)]
+#[derive(Clone, Debug, Drop)]
 pub struct Consumer {
     name: Stamp,
     stream: Name,
@@ -195,7 +195,7 @@ impl Consumer {
         ensures after { OnOk result (self.new ≡ after_beat now self.old) }
         ensures err { OnErr result (self.new ≡ self.old) }
     {
-        if self.paused || now < self.moment || now - self.moment < BEAT {
+        if !self.beats(now) {
             return Ok(None);
         }
         let beat = self.beat()?;
@@ -203,7 +203,16 @@ impl Consumer {
         Ok(Some(beat))
     }
 
-    fn beat(&self) -> Result<Packet, NoMemory>
+    /// Whether it is time for a beat: it isn't paused, and 5 seconds or more passed since its last
+    /// packet, or since it was made.
+    pub fn beats(&self, now: u64) -> bool
+        ensures { result ≡ beats now self.now }
+    {
+        !self.paused && self.moment <= now && now - self.moment >= BEAT
+    }
+
+    /// The beat, whether it is time for it or not.
+    pub fn beat(&self) -> Result<Packet, NoMemory>
         ensures { IfOk result (λ packet. packet ≡ beat self.now) }
     {
         Ok(Packet::Beat {
@@ -216,6 +225,16 @@ impl Consumer {
             last_seq: self.counts.last,
             stalled: self.counts.stalled(),
         })
+    }
+
+    /// Counts a beat as sent, where it was time for one. It takes no memory, so that the beats of several
+    /// consumers can be made first.
+    pub fn beaten(&mut self, now: u64)
+        ensures { self.new ≡ after_beat now self.old }
+    {
+        if self.beats(now) {
+            self.moment = now;
+        }
     }
 
     /// Stops the sending, as the link to the copy went.

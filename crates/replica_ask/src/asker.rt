@@ -18,7 +18,7 @@ const PATIENCE: u64 = 10_000_000_000;
 
 /// Who asks for one copy: which copy it is, the boot of its shard, how many attempts it has given in
 /// that boot, and its phase.
-#[derive(Debug, Drop)]
+#[derive(Clone, Debug, Drop)]
 pub struct Asker {
     id: AskerId,
     boot: u64,

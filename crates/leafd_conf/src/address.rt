@@ -1,0 +1,38 @@
+ghost use Rattle.std.specs.Prelude.{◌≡◌};
+ghost use Rattle.leafd_conf.specs.Profile.{is_address, ends_in_port, is_port};
+
+use nats_text::number;
+
+/// The greatest number of a port.
+const LAST_PORT: u64 = 65_535;
+
+/// Whether a text is one or more bytes, then a colon and a port.
+pub(crate) fn is_address(text: &[u8]) -> bool
+    ensures { result ≡ is_address text.now }
+{
+    if text.is_empty() {
+        return false;
+    }
+    ends_in_port(&text[1..])
+}
+
+/// Whether a colon is followed by a port alone.
+fn ends_in_port(text: &[u8]) -> bool
+    ensures { result ≡ ends_in_port text.now }
+{
+    for place in 0..text.len() {
+        if text[place] == b':' && is_port(&text[place + 1..]) {
+            return true;
+        }
+    }
+    false
+}
+
+fn is_port(text: &[u8]) -> bool
+    ensures { result ≡ is_port text.now }
+{
+    match number(text) {
+        Some(port) => port <= LAST_PORT,
+        None => false,
+    }
+}

@@ -1,7 +1,7 @@
 -- What a configuration file says, or its first fault.
-use Rattle.std.specs.Prelude.{ℕ, List, [], ◌∷◌, Bool, not, if◌then◌else◌, Option, None, Some, is_some, option_map, Result, Ok, Err, codes}
+use Rattle.std.specs.Prelude.{ℕ, List, [], ◌∷◌, Bool, not, if◌then◌else◌, Option, None, Some, is_some, Result, Ok, Err, codes}
 use Rattle.std.specs.Str.{is_utf8}
-use Rattle.toml.specs.Data.{Data, Members, as_str}
+use Rattle.toml.specs.Data.{Members}
 use Rattle.toml.specs.Parse.{parse_document}
 use Rattle.leafd_conf.specs.declared.conf.Conf.{Conf}
 use Rattle.leafd_conf.specs.declared.fault.ConfKind.TheVariants.{Syntax, Unknown, BadValue}
@@ -34,8 +34,8 @@ in_one_place conf = if has_one_place conf then Ok conf else Err (Bad BadValue (c
 
 -- no other member stands in the table, each is of its kind, and the node is a hub or a leaf
 abbrev pub known_in : Option (List ℕ) → Members → Result Conf ConfProblem
-known_in (Some other) members = Err (Bad Unknown other)
-known_in None members = fields_in members >>= in_one_place
+known_in (Some other) ms = Err (Bad Unknown other)
+known_in None ms = fields_in ms >>= in_one_place
 
 abbrev pub conf_in : Members → Result Conf ConfProblem
 conf_in members = known_in (first_other known_members members) members
@@ -45,5 +45,5 @@ abbrev pub conf_in_document : Option Members → Result Conf ConfProblem
 conf_in_document None = Err (Bad Syntax [])
 conf_in_document (Some members) = conf_in members
 
-abbrev pub conf_of : List ℕ → Result Conf ConfProblem
+unfoldable pub conf_of : List ℕ → Result Conf ConfProblem
 conf_of text = conf_in_document (if is_utf8 text then parse_document text else None)

@@ -3,13 +3,13 @@ use Rattle.std.specs.Prelude.{◌≡◌, ℕ, List, [], ◌∷◌, Bool, true, f
 use Rattle.std.specs.List.{list_any}
 use Rattle.std.specs.Option.{option_map_or}
 use Rattle.std.specs.Str.{bytes_eq}
-use Rattle.toml.specs.Data.{Data, string, array, table, Items, no_items, item, Members, no_members, member, get_member, as_str}
+use Rattle.toml.specs.Data.{Data, array, table, Items, no_items, item, Members, no_members, member, get_member, as_str}
 use Rattle.nats_text.specs.Numbers.{number_of}
 use Rattle.nats_text.specs.Text.{is_name}
 use Rattle.nats_text.specs.declared.origin.Mapping.{Mapping}
 use Rattle.subject_transform.specs.Transforms.{is_transform}
 use Rattle.leafd_conf.specs.declared.fault.ConfKind.{ConfKind}
-use Rattle.leafd_conf.specs.declared.fault.ConfKind.TheVariants.{Unknown, Missing, BadValue}
+use Rattle.leafd_conf.specs.declared.fault.ConfKind.TheVariants.{Missing, BadValue}
 use Rattle.leafd_conf.specs.declared.fault.ConfProblem.{ConfProblem}
 use Rattle.leafd_conf.specs.declared.fault.ConfProblem.TheVariants.{Bad, NoMemory}
 use Rattle.leafd_conf.specs.declared.member.TextRule.{TextRule}

@@ -20,10 +20,12 @@ pub(crate) fn is_address(text: &[u8]) -> bool
 fn ends_in_port(text: &[u8]) -> bool
     ensures { result ≡ ends_in_port text.now }
 {
-    for place in 0..text.len() {
-        if text[place] == b':' && is_port(&text[place + 1..]) {
+    let mut rest = text;
+    while let [byte, others @ ..] = rest {
+        if *byte == b':' && is_port(others) {
             return true;
         }
+        rest = others;
     }
     false
 }

@@ -11,14 +11,7 @@ use std::alloc::Global;
 use toml::Table;
 
 /// The members that a configuration may have.
-const MEMBERS: [&str; 6] = [
-    "name",
-    "store",
-    "listen",
-    "leaf_listen",
-    "hub",
-    "mappings",
-];
+const MEMBERS: [&str; 6] = ["name", "store", "listen", "leaf_listen", "hub", "mappings"];
 
 /// The configuration of a node. It is a hub where it has `leaf_listen`, and a leaf where it has `hub`: it
 /// has just one of these.
@@ -45,6 +38,7 @@ pub struct Conf {
 /// `Unknown` with the first other member in the order of bytes; `Missing` or `BadValue` with the first
 /// member above that isn't there or has a bad value; and `BadValue` with `hub` where both or neither of `leaf_listen` and `hub`
 /// are there.
+#[tactic(auto, unfolding(crate::specs::Confs::conf_of))]
 pub fn read_conf(alloc: Global, bytes: &[u8]) -> Result<Conf, ConfProblem>
     ensures { Gives result (conf_of bytes.now) }
 {

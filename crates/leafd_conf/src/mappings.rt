@@ -3,7 +3,7 @@ ghost use Rattle.toml.specs.Data.{as_str, get_member};
 ghost use Rattle.toml.specs.View.{view, items_view, table_view};
 ghost use Rattle.leafd_conf.specs.Profile.{Gives, mapping_in, mapping_of, mappings_in, mappings_of, optional, transform_of};
 
-use crate::member::{first_other, problem};
+use crate::member::{first_other, problem, value_at};
 use crate::{ConfKind, ConfProblem};
 use nats_text::{Bytes, List, Mapping, NoMemory};
 use std::alloc::Global;
@@ -16,7 +16,7 @@ const MAPPINGS: &str = "mappings";
 pub(crate) fn mappings(alloc: Global, table: &Table) -> Result<List<Mapping>, ConfProblem>
     ensures { Gives result (optional mappings_in [] (codes "mappings") (table_view table.now)) }
 {
-    let Some(value) = table.get(MAPPINGS) else {
+    let Some(value) = value_at(table, MAPPINGS) else {
         return Ok(List::new(alloc));
     };
     match mappings_in(alloc, value)? {
@@ -73,7 +73,7 @@ fn mapping_of(alloc: Global, table: &Table) -> Result<Option<Mapping>, NoMemory>
 fn text_at<'a>(table: &'a Table, member: &str) -> Option<&'a [u8]>
     ensures { option_map (λ text. text.now) result ≡ option_and_then as_str (get_member member.now (table_view table.now)) }
 {
-    match table.get(member) {
+    match value_at(table, member) {
         Some(value) => match value.as_str() {
             Some(text) => Some(text.as_bytes()),
             None => None,

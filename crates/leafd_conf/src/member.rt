@@ -1,4 +1,5 @@
 ghost use Rattle.std.specs.Prelude.{◌≡◌, None, codes, map, option_map};
+ghost use Rattle.toml.specs.Data.{get_member};
 ghost use Rattle.toml.specs.View.{view, table_view};
 ghost use Rattle.leafd_conf.specs.Profile.{Gives, IsProblem, first_other, is_among, is_reserved, name_in, optional, optional_text_in, or_bad, required, takes, text_in};
 
@@ -26,6 +27,13 @@ impl TextRule {
     }
 }
 
+/// The value of a member.
+pub(crate) fn value_at<'a>(table: &'a Table, member: &str) -> Option<&'a Value>
+    ensures { option_map (λ value. view value.now) result ≡ get_member member.now (table_view table.now) }
+{
+    table.get(member)
+}
+
 /// The text of a member that has to be there.
 pub(crate) fn required(
     alloc: Global,
@@ -35,7 +43,7 @@ pub(crate) fn required(
 ) -> Result<Bytes, ConfProblem>
     ensures { Gives result (required (text_in rule) member.now (table_view table.now)) }
 {
-    match table.get(member) {
+    match value_at(table, member) {
         Some(value) => text_in(alloc, value, member, rule),
         None => Err(problem(alloc, ConfKind::Missing, member)),
     }
@@ -49,7 +57,7 @@ pub(crate) fn optional(
 ) -> Result<Option<Bytes>, ConfProblem>
     ensures { Gives result (optional optional_text_in None member.now (table_view table.now)) }
 {
-    match table.get(member) {
+    match value_at(table, member) {
         Some(value) => match text_in(alloc, value, member, TextRule::Any) {
             Ok(text) => Ok(Some(text)),
             Err(problem) => Err(problem),
@@ -58,12 +66,7 @@ pub(crate) fn optional(
     }
 }
 
-fn text_in(
-    alloc: Global,
-    value: &Value,
-    member: &str,
-    rule: TextRule,
-) -> Result<Bytes, ConfProblem>
+fn text_in(alloc: Global, value: &Value, member: &str, rule: TextRule) -> Result<Bytes, ConfProblem>
     ensures { Gives result (or_bad member.now (text_in rule (view value.now))) }
 {
     if let Some(text) = value.as_str() {
@@ -78,7 +81,7 @@ fn text_in(
 pub(crate) fn node_name(alloc: Global, table: &Table) -> Result<Name, ConfProblem>
     ensures { Gives result (required name_in (codes "name") (table_view table.now)) }
 {
-    match table.get("name") {
+    match value_at(table, "name") {
         Some(value) => name_in(alloc, value),
         None => Err(problem(alloc, ConfKind::Missing, "name")),
     }
@@ -121,7 +124,14 @@ pub(crate) fn first_other<'a>(table: &'a Table, members: &[&str]) -> Option<&'a 
 fn is_among(key: &str, members: &[&str]) -> bool
     ensures { result ≡ is_among (map (λ member. member.now) members.now) key.now }
 {
-    members.iter().any(|member| *member == key)
+    let mut rest = members;
+    while let [member, others @ ..] = rest {
+        if *member == key {
+            return true;
+        }
+        rest = others;
+    }
+    false
 }
 
 /// What is wrong with a member. There may be no memory for its name.

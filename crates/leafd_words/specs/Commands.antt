@@ -63,7 +63,7 @@ command (Inspect dir) = inspect dir.now
 command (Map texts) = map_subject (texts_of texts)
 
 -- the reading takes the words: it has no error to tell
-abbrev pub is_taken : List (List ℕ) → Bool
+unfoldable pub is_taken : List (List ℕ) → Bool
 is_taken words = is_empty (fault_of leafd_app words)
 
 -- what was found for a value; one that isn't there would count as empty
@@ -79,5 +79,5 @@ named found =
     else map_subject (record { src = value_in (codes "SRC") found.1; dest = value_in (codes "DEST") found.1; subject = value_in (codes "SUBJECT") found.1 })
 
 -- the command that words are: none where the reading refuses them
-abbrev pub command_of : List (List ℕ) → Option Command
+unfoldable pub command_of : List (List ℕ) → Option Command
 command_of words = if is_taken words then option_map named (subcommand_of leafd_app words) else None

@@ -36,6 +36,7 @@ pub enum Words<'a> {
 /// stands before it.
 ///
 /// `Usage` comes exactly where the reading refuses the words.
+#[tactic(auto, unfolding(crate::specs::Commands::is_taken, crate::specs::Commands::command_of))]
 pub fn read_words<'a>(alloc: Global, words: &'a [String]) -> Result<Words<'a>, WordsFault>
     ensures value { IfOk result (λ read. command_of (map string_bytes words.now) ≡ Some (command read)) }
     ensures taken { IfOk result (λ _. IsTrue (is_taken (map string_bytes words.now))) }

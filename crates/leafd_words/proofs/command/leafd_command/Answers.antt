@@ -1,6 +1,6 @@
-use Rattle.std.proofs.Common.{◌≡◌, ◌∙◌, ap, ap₂, codes, false}
+use Rattle.std.proofs.Common.{◌∙◌, ap, ap₂, codes}
 use Rattle.std.proofs.lemmas.Result.{IfOk-weaker}
-use Rattle.clap.specs.Simple.{App, app_of, with_rule, with_subcommand, new_app}
+use Rattle.clap.specs.Simple.{App, with_rule, with_subcommand}
 use Rattle.leafd_words.specs.Commands.{value_rule}
 use Rattle.leafd_words.proofs.command.leafd_command.Goals as goal
 

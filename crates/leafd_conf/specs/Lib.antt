@@ -1,0 +1,3 @@
+pub mod Confs
+pub mod Kinds
+pub mod Profile

@@ -8,7 +8,7 @@ use Rattle.record_codec.specs.declared.records.Rec.{Rec}
 use Rattle.js_wire.specs.declared.packet.Packet.{Packet}
 use Rattle.js_wire.specs.declared.packet.Packet.TheVariants.{Ask, Answer, Refuse, Delivery, Beat, FlowAsk, FlowReply}
 use Rattle.push_consumer.specs.declared.wanted.Wanted.{Wanted}
-use Rattle.push_consumer.specs.Chains.{Sendings, no_sendings, with_rows}
+use Rattle.push_consumer.specs.Chains.{Sendings, IsRight, no_sendings, with_rows}
 use Rattle.push_consumer.specs.Progress.{ConsumerState}
 use Rattle.replica_ask.specs.Orders.{same_stamp}
 use Rattle.shard_machine.specs.declared.call.ShardCall.{ShardCall}
@@ -140,3 +140,12 @@ pub record IsGiven (b given : ℕ) (stamp : Stamp) : Type 0 where
 -- the consumer reads this stream of the log
 abbrev pub IsRead : List Rec → Consumer → Made → Type 0
 IsRead log c m = made log c.stream c.incarnation ≡ Some m
+
+-- What a consumer has sent is right for the stream that it reads, whether it stands or not: by the state in
+-- which it stands, or stood last.
+pub record ReadsRight (log : List Rec) (c : Consumer) : Type 0 where
+  pub origin : Made
+  pub reads : IsRead log c origin
+  pub state : ConsumerState
+  pub wanted : state.wanted ≡ c.wanted
+  pub right : IsRight origin.history state c.sent

@@ -9,3 +9,4 @@ pub mod ShardsCopies
 pub mod ShardsSent
 pub mod ShardsRows
 pub mod ShardsKept
+pub mod ShardsSteps

@@ -23,7 +23,7 @@ use Rattle.shard_machine.specs.Views.{Effect, idle_askers}
 use Rattle.shard_machine.specs.Answers.{Answers}
 use Rattle.shard_machine.specs.Steps.{Held, view_in, HaveRoom, has_room, needed, has_number, end_after, next_boot, may_open, IsSettled, Loads, IsReady, Succeeds, IsTurnedDown, LacksRoom, LacksRoomToLoad, CannotLoad, Faults, FailsToLoad, StaysOrLoads, Refuses, RefusesWith, StepTo, Step, after_effect, refused_packets}
 use Rattle.shard_machine.proofs.Images.{image_after-append, images-tell}
-use Rattle.run_soundness.specs.Shards.{Consumer, ShardState, Distinct, IsGiven, ReadsRight, IsNewShard, Moves, LoadsOn, RestsOn, delivered, standing_of, answered_now, sent_now, ever_after}
+use Rattle.run_soundness.specs.Shards.{Consumer, ShardState, Distinct, IsGiven, ReadsRight, IsNewShard, Moves, LoadsOn, RestsOn, delivered, standing_of, answered_now, sent_now, made_by, ever_after}
 use Rattle.run_soundness.proofs.Histories.{GoesOn-refl}
 use Rattle.run_soundness.proofs.Laws.{Laws}
 use Rattle.run_soundness.proofs.Lists.{Contains-none, Contains-head, Contains-tail}
@@ -140,12 +140,6 @@ ok-bare laws s new more ok b = record {
 pub ShardOk-loads : Laws → (s new : ShardState) → ShardOk s → LoadsOn s new → ShardOk new
 ShardOk-loads laws s new ok l = ok-bare laws s new l.records ok bare
   where
-    settled : List Rec
-    settled = l.loads.settled
-
-    opening : Rec
-    opening = next_boot (image_after s.held.image l.loads.settled)
-
     bare : Bare s new l.records
     bare =
         let st = settled-as s.log s.held.doubt l.loads.settled ok.doubt l.loads.in_or_out in
@@ -317,6 +311,18 @@ none-same k c e = absurd (cc)
 
 -- ---- the parts of a step
 
+tokens-in : (s : ShardState) (consumers : List ConsumerState) → ShardOk s → (consumers ≡ s.held.consumers) ⊎ (consumers ≡ []) → (k : Consumer) (p : ConsumerState) → Contains s.ever k → standing_of consumers k.name ≡ Some p → record k.sent { answered = p.progress.answered } ≡ k.sent
+tokens-in s consumers ok (inl same) k p q e = tokens-same s ok k p q (ap (λ (l : List ConsumerState). standing_of l k.name) (sym same) ∙ e)
+tokens-in s consumers ok (inr none) k p q e = none-same k p (ap (λ (l : List ConsumerState). standing_of l k.name) (sym none) ∙ e)
+
+-- a shard that is ready has the consumers that it had, or none
+ready-consumers : (old new : Held) (records : List Rec) → IsReady old records new → (new.consumers ≡ old.consumers) ⊎ (new.consumers ≡ [])
+ready-consumers old new records r = by old.loaded refl
+  where
+    by : (b : Bool) → old.loaded ≡ b → (new.consumers ≡ old.consumers) ⊎ (new.consumers ≡ [])
+    by true q = inl (ap (λ (h : Held). h.consumers) (r.same q).0)
+    by false q = inr (ap (λ (h : Held). h.consumers) (r.loads q).becomes)
+
 module _ (old : ShardState) (c : ShardCall) (reply : ShardReply) (new : ShardState) (m : Moves old c reply new) where
   succeeds : Succeeds old.held c reply m.records new.held → Answered old c reply new
   succeeds s =
@@ -336,10 +342,135 @@ module _ (old : ShardState) (c : ShardCall) (reply : ShardReply) (new : ShardSta
       }
 
   -- a refusal leaves the consumers
-  refused-ever : (why : ShardRefusal) → reply.outcome ≡ outcome.Refused why → reply.packets ≡ refused_packets c why →
-      ((k : Consumer) (p : ConsumerState) → Contains old.ever k → standing_of new.held.consumers k.name ≡ Some p → record k.sent { answered = p.progress.answered } ≡ k.sent) → new.ever ≡ old.ever
-  refused-ever why o p same =
+  refused-ever : ShardOk old → (why : ShardRefusal) → reply.outcome ≡ outcome.Refused why → reply.packets ≡ refused_packets c why → (new.held.consumers ≡ old.held.consumers) ⊎ (new.held.consumers ≡ []) → new.ever ≡ old.ever
+  refused-ever ok why o p consumers =
       m.ever
-      ∙ (ap (λ (x : Outcome). map (sent_now new.held.consumers reply.packets) old.ever ++ Rattle.run_soundness.specs.Shards.made_by x new.held) o
+      ∙ (ap (λ (x : Outcome). map (sent_now new.held.consumers reply.packets) old.ever ++ made_by x new.held) o
       ∙ (append-nil (map (sent_now new.held.consumers reply.packets) old.ever)
-      ∙ ever-still new.held.consumers reply.packets old.ever (λ n. ap (delivered n) p ∙ refused-none n c why) same))
+      ∙ ever-still new.held.consumers reply.packets old.ever (λ n. ap (delivered n) p ∙ refused-none n c why) (tokens-in old new.held.consumers ok consumers)))
+
+  ready-on : ShardOk old → (why : ShardRefusal) → reply.outcome ≡ outcome.Refused why → reply.packets ≡ refused_packets c why → IsReady old.held m.records new.held → ReadyOn old new
+  ready-on ok why o p r = record { records = m.records; is_ready = r; log = m.log; ever = refused-ever ok why o p (ready-consumers old.held new.held m.records r) }
+
+  stays-on : ShardOk old → (why : ShardRefusal) → reply.outcome ≡ outcome.Refused why → reply.packets ≡ refused_packets c why → new.held ≡ old.held → m.records ≡ [] → new ≡ old
+  stays-on ok why o p same none =
+      same-state new old same (m.log ∙ (ap (λ (l : List Rec). old.log ++ l) none ∙ append-nil old.log)) (refused-ever ok why o p (inl (ap (λ (h : Held). h.consumers) same)))
+
+  turned : ShardOk old → (why : ShardRefusal) → reply.outcome ≡ outcome.Refused why → reply.packets ≡ refused_packets c why → IsTurnedDown old.held c why m.records new.held → Came old c reply new
+  turned ok why o p t = Down why (record { outcome_is = o; packets = p; state = inr (ready-on ok why o p t.is_ready) })
+
+  lacks : ShardOk old → (end need : ℕ) → reply.outcome ≡ outcome.Refused (refusal.JournalFull end need) → reply.packets ≡ refused_packets c (refusal.JournalFull end need) →
+      LacksRoom old.held c end need m.records new.held ⊎ LacksRoomToLoad old.held end need m.records new.held → Came old c reply new
+  lacks ok end need o p (inl l) = Down (refusal.JournalFull end need) (record { outcome_is = o; packets = p; state = inr (ready-on ok (refusal.JournalFull end need) o p l.is_ready) })
+  lacks ok end need o p (inr l) = Down (refusal.JournalFull end need) (record { outcome_is = o; packets = p; state = inl (stays-on ok (refusal.JournalFull end need) o p l.same l.none) })
+
+  stays-or : ShardOk old → reply.outcome ≡ outcome.Refused refusal.NoMemory → reply.packets ≡ refused_packets c refusal.NoMemory → StaysOrLoads old.held m.records new.held → Came old c reply new
+  stays-or ok o p (inl same) = Down refusal.NoMemory (record { outcome_is = o; packets = p; state = inl (stays-on ok refusal.NoMemory o p same.0 same.1) })
+  stays-or ok o p (inr r) = Down refusal.NoMemory (record { outcome_is = o; packets = p; state = inr (ready-on ok refusal.NoMemory o p r) })
+
+  faulty : ShardOk old → (made : Option Entry) → reply.outcome ≡ outcome.Refused refusal.DiskFault → reply.packets ≡ refused_packets c refusal.DiskFault → Faults old.held c made m.records new.held ⊎ FailsToLoad old.held made m.records new.held → Came old c reply new
+  faulty ok made o p (inl f) =
+      let mid : ShardState = record { held = f.ready; log = old.log ++ m.records; ever = old.ever } in
+      Fault (record {
+        outcome_is = o;
+        packets = p;
+        state = inl (mid, record { records = m.records; is_ready = f.is_ready; log = refl; ever = refl }, record {
+          does = f.does;
+          answers = f.answers;
+          doubtful = f.doubtful;
+          is = f.is;
+          room = f.room;
+          becomes = f.becomes;
+          log = m.log;
+          ever = refused-ever ok refusal.DiskFault o p (inr (ap (λ (h : Held). h.consumers) f.becomes));
+        });
+      })
+  faulty ok made o p (inr f) =
+      Fault (record {
+        outcome_is = o;
+        packets = p;
+        state = inr (record { was = f.was; records = m.records; result = f.result; log = m.log; ever = refused-ever ok refusal.DiskFault o p (inl (fail-consumers f.result)) });
+      })
+    where
+      fail-consumers :
+          ((new.held ≡ old.held) × (m.records ≡ []))
+          ⊎ (IsSettled old.held.doubt m.records × (may_open old.held m.records ≡ true) × (new.held ≡ record old.held { image = image_after old.held.image m.records; doubt = Some (next_boot (image_after old.held.image m.records)); end = end_after old.held.end m.records }))
+          → new.held.consumers ≡ old.held.consumers
+      fail-consumers (inl same) = ap (λ (h : Held). h.consumers) same.0
+      fail-consumers (inr w) = ap (λ (h : Held). h.consumers) w.2
+
+  by-refusal : ShardOk old → (why : ShardRefusal) (made : Option Entry) → reply.outcome ≡ outcome.Refused why → reply.packets ≡ refused_packets c why → Refuses old.held c why made m.records new.held → Came old c reply new
+  by-refusal ok (refusal.Of why) made o p r = turned ok (refusal.Of why) o p r.1
+  by-refusal ok refusal.NoStream made o p r = turned ok refusal.NoStream o p r.1
+  by-refusal ok (refusal.BadConfig member) made o p r = turned ok (refusal.BadConfig member) o p r.1
+  by-refusal ok refusal.NameTaken made o p r = turned ok refusal.NameTaken o p r.1
+  by-refusal ok refusal.TooManyStreams made o p r = turned ok refusal.TooManyStreams o p r.1
+  by-refusal ok (refusal.OldAttempt kept seen) made o p r = turned ok (refusal.OldAttempt kept seen) o p r.1
+  by-refusal ok refusal.TooManyConsumers made o p r = turned ok refusal.TooManyConsumers o p r.1
+  by-refusal ok refusal.NoMessage made o p r = turned ok refusal.NoMessage o p r.1
+  by-refusal ok (refusal.JournalFull end need) made o p r = lacks ok end need o p r.1
+  by-refusal ok (refusal.BadJournal place) made o p r = Down (refusal.BadJournal place) (record { outcome_is = o; packets = p; state = inl (stays-on ok (refusal.BadJournal place) o p r.1.same r.1.none) })
+  by-refusal ok refusal.NoMemory made o p r = stays-or ok o p r.1
+  by-refusal ok refusal.DiskFault made o p r = faulty ok made o p r
+
+  refuses : ShardOk old → (why : ShardRefusal) → RefusesWith old.held c why reply m.records new.held → Came old c reply new
+  refuses ok why r = by-refusal ok why r.doubted (ap (λ (x : ShardReply). x.outcome) r.replies) (ap (λ (x : ShardReply). x.packets) r.replies) r.refuses
+
+  by-outcome : ShardOk old → (o : Outcome) → StepTo o old.held c reply m.records new.held → Came old c reply new
+  by-outcome ok (outcome.Made fresh) s = Fine (succeeds s)
+  by-outcome ok outcome.Updated s = Fine (succeeds s)
+  by-outcome ok outcome.Removed s = Fine (succeeds s)
+  by-outcome ok (outcome.Stored seq) s = Fine (succeeds s)
+  by-outcome ok (outcome.Duplicate seq) s = Fine (succeeds s)
+  by-outcome ok outcome.Deleted s = Fine (succeeds s)
+  by-outcome ok (outcome.Purged count) s = Fine (succeeds s)
+  by-outcome ok (outcome.Expired count) s = Fine (succeeds s)
+  by-outcome ok (outcome.Found row) s = Fine (succeeds s)
+  by-outcome ok (outcome.Info facts) s = Fine (succeeds s)
+  by-outcome ok (outcome.Listed names) s = Fine (succeeds s)
+  by-outcome ok (outcome.Consumer name) s = Fine (succeeds s)
+  by-outcome ok outcome.Sent s = Fine (succeeds s)
+  by-outcome ok (outcome.Heard decision) s = Fine (succeeds s)
+  by-outcome ok (outcome.Refused why) s = refuses ok why s
+
+  -- A step is an answer, a refusal or a fault of a disk, each behind a load where the shard wasn't loaded.
+  pub moves-came : ShardOk old → Came old c reply new
+  moves-came ok = by-outcome ok reply.outcome m.step
+
+-- ---- each step
+
+ok-answered : Laws → (old : ShardState) (c : ShardCall) (reply : ShardReply) (new : ShardState) → ShardOk old → Answered old c reply new → ShardOk new
+ok-answered laws old c reply new ok a = let r = ShardOk-ready laws old a.mid ok a.ready in ShardOk-answers laws a.mid new c a.does r.0 r.1 a.answers
+
+ok-turned : Laws → (old new : ShardState) → ShardOk old → (new ≡ old) ⊎ ReadyOn old new → ShardOk new
+ok-turned laws old new ok (inl same) = subst ShardOk (sym same) ok
+ok-turned laws old new ok (inr r) = (ShardOk-ready laws old new ok r).0
+
+ok-failed : Laws → (old : ShardState) (c : ShardCall) (new : ShardState) → ShardOk old → ((mid : ShardState) × ReadyOn old mid × FaultsOn mid c new) ⊎ FailsOn old new → ShardOk new
+ok-failed laws old c new ok (inl f) = let r = ShardOk-ready laws old f.0 ok f.1 in ShardOk-faults laws f.0 c new r.0 r.1 f.2
+ok-failed laws old c new ok (inr f) = ShardOk-fails laws old new ok f
+
+pub ShardOk-came : Laws → (old : ShardState) (c : ShardCall) (reply : ShardReply) (new : ShardState) → ShardOk old → Came old c reply new → ShardOk new
+ShardOk-came laws old c reply new ok (Fine a) = ok-answered laws old c reply new ok a
+ShardOk-came laws old c reply new ok (Down why t) = ok-turned laws old new ok t.state
+ShardOk-came laws old c reply new ok (Fault f) = ok-failed laws old c new ok f.state
+
+-- Every step keeps what each shard keeps.
+pub ShardOk-step : Laws → (old : ShardState) (c : ShardCall) (reply : ShardReply) (new : ShardState) → ShardOk old → Moves old c reply new → ShardOk new
+ShardOk-step laws old c reply new ok m = ShardOk-came laws old c reply new ok (moves-came old c reply new m ok)
+
+-- and a shard that was never loaded has it
+pub ShardOk-empty : (node : List ℕ) (s : ShardState) → IsNewShard node s → ShardOk s
+ShardOk-empty node s e = record {
+  image_is = ap (λ (h : Held). h.image) e.held ∙ ap image (sym e.log);
+  logs = subst LogOk (sym e.log) LogOk-empty;
+  names = λ c q. absurd (Contains-none c (subst (λ (l : List Consumer). Contains l c) e.ever q));
+  once = subst Distinct (sym e.ever) tt;
+  chains = λ c q. absurd (Contains-none c (subst (λ (l : List Consumer). Contains l c) e.ever q));
+  standing = λ c q. absurd (Contains-none c (subst (λ (l : List ConsumerState). Contains l c) (ap (λ (h : Held). h.consumers) e.held) q));
+  apart = subst Apart (sym (ap (λ (h : Held). h.consumers) e.held)) tt;
+  doubt = λ r x. absurd (let z : None ≡ Some r = sym (ap (λ (h : Held). h.doubt) e.held) ∙ x in cc);
+  certain = λ l. ap (λ (h : Held). h.doubt) e.held;
+  none = λ l. ap (λ (h : Held). h.consumers) e.held;
+  booted = λ l. absurd (let z : false ≡ true = sym (ap (λ (h : Held). h.loaded) e.held) ∙ l in cc);
+}

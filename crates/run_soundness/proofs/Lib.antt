@@ -1,0 +1,12 @@
+pub mod Histories
+pub mod Logs
+pub mod Laws
+pub mod Lists
+pub mod Stamps
+pub mod Chains
+pub mod LogsLegal
+pub mod ShardsCopies
+pub mod ShardsSent
+pub mod ShardsRows
+pub mod ShardsKept
+pub mod ShardsSteps

@@ -1,0 +1,694 @@
+-- What each row of the table does to the log and to the consumers of a shard.
+use Rattle.std.proofs.Common.{◌≡◌, ◌≢◌, ℕ, zero, suc, ◌+◌, ◌-◌, ◌<◌, ◌≤◌, ◌^◌, max, Bool, true, false, cond, not, ◌&&◌, eqb, leb, ltb, List, [], ◌∷◌, ◌++◌, length, Option, Some, None, IsSome, refl, sym, ap, ◌∙◌, subst, arith, ◌⊎◌, inl, inr}
+use Rattle.std.specs.Prelude.{⊤, filter, map, flat_map, count_by, option_map, Contains, Result, Ok, Err, codes}
+use Rattle.std.specs.List.{find}
+use Rattle.std.specs.Str.{bytes_eq}
+use Rattle.std.specs.Cmp.Lexicographic.{bytes_decides}
+use Rattle.std.proofs.lemmas.Bool.{eqb-false, ltb-true}
+use Rattle.std.proofs.lemmas.List.Elements.{Contains-append_left, Contains-append_right, Contains-append_cases}
+use Rattle.nats_text.specs.Headers.{first_value}
+use Rattle.nats_text.specs.declared.message.Message.{Message}
+use Rattle.nats_text.specs.declared.message.Stamp.{Stamp}
+use Rattle.nats_text.specs.declared.message.Start.{Start}
+use Rattle.js_wire.specs.declared.packet.AskerId.{AskerId}
+use Rattle.js_wire.specs.declared.packet.Packet.{Packet}
+use Rattle.js_wire.specs.declared.packet.Packet.TheVariants.{Ask, Answer, Refuse, Delivery, Beat, FlowAsk, FlowReply}
+use Rattle.stream_fold.specs.declared.config.Config.{Config}
+use Rattle.stream_fold.specs.declared.decision.Decision.{Decision}
+use Rattle.stream_fold.specs.declared.decision.Reason.TheVariants.{Foreign}
+use Rattle.stream_fold.specs.declared.decision.Decision.TheVariants.{Store, Bind as Binds, Rebind, Skip, Ignore, AskAgain, Reply, Heard as Hears, Refused as IsRefused, Stop}
+use Rattle.stream_fold.specs.declared.entry.Entry.{Entry}
+use Rattle.stream_fold.specs.declared.entry.Entry.TheVariants.{Put, Del, Purge, Expire, Bind, Limits}
+use Rattle.stream_fold.specs.declared.entry.Numbered.{Numbered}
+use Rattle.stream_fold.specs.declared.verdict.Refusal.{Refusal}
+use Rattle.stream_fold.specs.declared.verdict.Verdict.{Verdict}
+use Rattle.stream_fold.specs.declared.verdict.Verdict.TheVariants.{Fresh, Duplicate as IsDuplicate}
+use Rattle.stream_fold.specs.Checking.{config_fault, is_mirror}
+use Rattle.stream_fold.specs.Copying.{Follows}
+use Rattle.stream_fold.specs.Facts.{StreamFacts, facts, FitsFacts, verdict_by_facts, repeat_by_facts}
+use Rattle.stream_fold.specs.Fits.{KeepsMembers}
+use Rattle.stream_fold.specs.Histories.{History, kept, last, message_at, is_purged, is_expired, NumbersRise}
+use Rattle.stream_fold.specs.Publishing.{later_refusal, earlier_refusal, repeat_or, fresh_or, verdict_behind}
+use Rattle.stream_fold.proofs.FactLemmas.{facts-tell}
+use Rattle.mirror_core.specs.Entries.{IfEntry}
+use Rattle.source_core.specs.Decisions.{at_time}
+use Rattle.record_codec.specs.declared.records.Rec.{Rec}
+use Rattle.record_codec.specs.declared.records.Rec.TheVariants.{Boot, Create, Remove, Of}
+use Rattle.push_consumer.specs.declared.wanted.Wanted.{Wanted}
+use Rattle.push_consumer.specs.Chains.{Sendings, IsRight, with_rows}
+use Rattle.push_consumer.specs.Laws.{answered_to}
+use Rattle.push_consumer.specs.Progress.{ConsumerState, new_consumer, beats, after_beat, is_awaited}
+use Rattle.push_consumer.specs.Pumps.{pumped, pump_packets, pump_rows}
+use Rattle.replica_ask.specs.Orders.{same_stamp}
+use Rattle.replica_ask.specs.declared.phase.Phase.{Phase}
+use Rattle.shard_machine.specs.declared.call.ShardCall.{ShardCall}
+use Rattle.shard_machine.specs.declared.call.ShardCall.TheVariants as call
+use Rattle.shard_machine.specs.declared.call.Which.{Which}
+use Rattle.shard_machine.specs.declared.reply.Outcome.{Outcome}
+use Rattle.shard_machine.specs.declared.reply.Outcome.TheVariants as outcome
+use Rattle.shard_machine.specs.declared.reply.ShardRefusal.{ShardRefusal}
+use Rattle.shard_machine.specs.declared.reply.ShardRefusal.TheVariants as refusal
+use Rattle.shard_machine.specs.declared.reply.ShardReply.{ShardReply}
+use Rattle.shard_machine.specs.Logs.{Made, boot, incarnation, live}
+use Rattle.shard_machine.specs.Legal.{MayFollow, MayChange, HasFaultless}
+use Rattle.shard_machine.specs.Images.{LogImage, NameFacts, image, live_in, incarnation_in, live_names, known_of, MayFollowImage, MayMakeIn, MayChangeIn}
+use Rattle.shard_machine.specs.Views.{View, Effect, Askers, Copy, copies_under, asks_of, reads, writes, sends, asker_of, idle_askers}
+use Rattle.shard_machine.specs.Answers.{Answered, Answers, CreatesAgain, Creates, creates, creates_new, Updates, removes, reads_stream, publishes, publishes_by, takes_subject, transformed, deletes, purges, expires, below_or_all, gets, row_by, informs, serves, next_name, makes, makes_asked, makes_for, makes_consumer, is_earlier, consumer_start, for_stream, consumers_of, pumps, takes_token, takes_at, takes_reply, paused_for, reaches, copies_of_node, ticks, beats_of, due_copies, addressee, copy_of_asker, decided_by, hears, follows, hears_with, with_record}
+use Rattle.shard_machine.specs.Steps.{Held, has_number}
+use Rattle.shard_machine.proofs.Images.{images-tell}
+use Rattle.shard_machine.proofs.Legality.{tell-legal}
+use Rattle.run_soundness.specs.Shards.{delivered, standing_of, answered_now, just_made, made_by}
+use Rattle.run_soundness.proofs.Laws.{Laws}
+use Rattle.run_soundness.proofs.Lists.{Contains-one, Contains-head, map-back, map-on, filter-was, filter-pass}
+use Rattle.run_soundness.proofs.Stamps.{Apart, Apart-filter, Apart-push, Apart-map, standing-of, same_stamp-is}
+use Rattle.run_soundness.proofs.Logs.{NoBoot, Leaves, same_bytes}
+use Rattle.run_soundness.proofs.LogsLegal.{LogOk, MayStand, live-ok, fit-bound, fit-keeps}
+use Rattle.run_soundness.proofs.Chains.{right-pump, answered-is, pump-own, pump-else, delivered-none, delivered-one}
+use Rattle.run_soundness.proofs.ShardsCopies.{EntryOk, IsCopyOf, heard-copy, decided-ok}
+use Rattle.run_soundness.proofs.ShardsSent.{asks-none, beats-none, flow-none, append-none, flat-none}
+
+-- ---- what is said of a row
+
+-- A loaded shard that answers by this view has this log: a legal one. Each consumer reads a stream that
+-- stands, no two have one name, and none has the next one.
+pub record Before (log : List Rec) (v : View) : Type 0 where
+  pub image_is : v.image ≡ image log
+  pub logs : LogOk log
+  pub booted : 1 ≤ boot log
+  pub reading : (c : ConsumerState) → Contains v.consumers c → (m : Made) × (live log c.stream ≡ Some m)
+  pub apart : Apart v.consumers
+  pub fresh : (c : ConsumerState) → Contains v.consumers c → c.name ≢ next_name v
+
+abbrev pub option_list : Option Rec → List Rec
+option_list None = []
+option_list (Some r) = r ∷ []
+
+-- the records that an answer adds: at most one, which may stand behind the log, is no opening, and leaves the
+-- streams of the consumers that stand then
+pub record Adds (log : List Rec) (does : Effect) : Type 0 where
+  pub one : Option Rec
+  pub are : does.records ≡ option_list one
+  pub may : (r : Rec) → one ≡ Some r → MayStand log r
+  pub no_boot : (r : Rec) → one ≡ Some r → NoBoot r
+  pub leaves : (r : Rec) → one ≡ Some r → (c : ConsumerState) → Contains does.consumers c → Leaves r c.stream
+
+-- a consumer that stood before: what never changes of it stays, and what is right for what it has sent stays
+-- right with what is delivered in its name
+pub record Grew (log : List Rec) (packets : List Packet) (c d : ConsumerState) : Type 0 where
+  pub name : d.name ≡ c.name
+  pub stream : d.stream ≡ c.stream
+  pub wanted : d.wanted ≡ c.wanted
+  pub right : (m : Made) (s : Sendings) → live log c.stream ≡ Some m → NumbersRise m.history.entries → IsRight m.history c s → IsRight m.history d (answered_now (Some d) (with_rows s (delivered c.name packets)))
+
+-- a consumer that was made in this answer
+pub record IsNew (log : List Rec) (v : View) (does : Effect) (d : ConsumerState) : Type 0 where
+  pub now : ℕ
+  pub is : d ≡ new_consumer (next_name v) d.stream d.wanted now
+  pub given : v.given + 1 ≤ does.given
+  pub here : Contains does.consumers d
+  pub known : Made
+  pub reads_it : live log d.stream ≡ Some known
+
+-- what becomes of the consumers
+pub record Evolves (log : List Rec) (v : View) (does : Effect) : Type 0 where
+  pub given : v.given ≤ does.given
+  pub made : Option ConsumerState
+  pub made_is : (h : Held) → h.consumers ≡ does.consumers → Apart does.consumers → made_by does.reply.outcome h ≡ just_made h.image made
+  pub new : (d : ConsumerState) → made ≡ Some d → IsNew log v does d
+  pub back : (d : ConsumerState) → Contains does.consumers d → ((c : ConsumerState) × Contains v.consumers c × Grew log does.reply.packets c d) ⊎ (made ≡ Some d)
+  pub apart : Apart does.consumers
+  pub none : (name : Stamp) → ((d : ConsumerState) → Contains does.consumers d → d.name ≢ name) → delivered name does.reply.packets ≡ []
+
+pub record Row (log : List Rec) (v : View) (does : Effect) : Type 0 where
+  pub adds : Adds log does
+  pub evolves : Evolves log v does
+
+-- ---- consumers
+
+-- with the token that the consumer has answered
+answered-by : (h : History) (d : ConsumerState) (s other : Sendings) → other.sent ≡ s.sent → IsRight h d other → answered_now (Some d) s ≡ other
+answered-by h d s other same right = λ i. record { sent = sym same i; answered = right.stands.answer i }
+
+-- what leaves a consumer right that sends nothing
+abbrev StaysRight : ConsumerState → ConsumerState → Type 0
+StaysRight c d = (h : History) (s : Sendings) → IsRight h c s → (other : Sendings) × (other.sent ≡ s.sent) × IsRight h d other
+
+still-right : (c : ConsumerState) → StaysRight c c
+still-right c h s ok = (s, refl, ok)
+
+-- a consumer in whose name nothing is delivered
+grew-still : (log : List Rec) (packets : List Packet) (c d : ConsumerState) → delivered c.name packets ≡ [] → d.name ≡ c.name → d.stream ≡ c.stream → d.wanted ≡ c.wanted → StaysRight c d → Grew log packets c d
+grew-still log packets c d none n st w f = record {
+  name = n;
+  stream = st;
+  wanted = w;
+  right = λ m s l rise ok.
+      let r = f m.history s ok in
+      subst (λ (rows : List Numbered). IsRight m.history d (answered_now (Some d) (with_rows s rows))) (sym none)
+      (subst (IsRight m.history d) (sym (answered-by m.history d s r.0 r.1 r.2)) r.2);
+}
+
+grew-same : (log : List Rec) (packets : List Packet) (c : ConsumerState) → delivered c.name packets ≡ [] → Grew log packets c c
+grew-same log packets c none = grew-still log packets c c none refl refl refl (still-right c)
+
+no_made : (P : ConsumerState → Type 0) (d : ConsumerState) → None ≡ Some d → P d
+no_made P d e = absurd (cc)
+
+-- a change of a consumer that leaves what never changes, and leaves it right
+record Changes (f : ConsumerState → ConsumerState) : Type 0 where
+  name : (c : ConsumerState) → (f c).name ≡ c.name
+  stream : (c : ConsumerState) → (f c).stream ≡ c.stream
+  wanted : (c : ConsumerState) → (f c).wanted ≡ c.wanted
+  right : (c : ConsumerState) → StaysRight c (f c)
+
+-- an answer that makes no consumer, and delivers nothing
+record IsQuiet (v : View) (does : Effect) : Type 0 where
+  given : v.given ≤ does.given
+  makes : (h : Held) → made_by does.reply.outcome h ≡ []
+  none : (name : Stamp) → delivered name does.reply.packets ≡ []
+
+-- each consumer changes so
+evolves-map : (log : List Rec) (v : View) (does : Effect) (f : ConsumerState → ConsumerState) → Apart v.consumers → does.consumers ≡ map f v.consumers → IsQuiet v does → Changes f → Evolves log v does
+evolves-map log v does f apart are q c = record {
+  given = q.given;
+  made = None;
+  made_is = λ h same a. q.makes h;
+  new = λ d e. no_made (IsNew log v does) d e;
+  back = λ d here. let w = map-back f v.consumers d (subst (λ (l : List ConsumerState). Contains l d) are here) in
+      inl (w.of, w.here, subst (Grew log does.reply.packets w.of) w.is (grew-still log does.reply.packets w.of (f w.of) (q.none w.of.name) (c.name w.of) (c.stream w.of) (c.wanted w.of) (c.right w.of)));
+  apart = subst Apart (sym are) (Apart-map f c.name v.consumers apart);
+  none = λ name h. q.none name;
+}
+
+-- some consumers go
+evolves-filter : (log : List Rec) (v : View) (does : Effect) (p : ConsumerState → Bool) → Apart v.consumers → does.consumers ≡ filter p v.consumers → IsQuiet v does → Evolves log v does
+evolves-filter log v does p apart are q = record {
+  given = q.given;
+  made = None;
+  made_is = λ h same a. q.makes h;
+  new = λ d e. no_made (IsNew log v does) d e;
+  back = λ d here. inl (d, filter-was p v.consumers d (subst (λ (l : List ConsumerState). Contains l d) are here), grew-same log does.reply.packets d (q.none d.name));
+  apart = subst Apart (sym are) (Apart-filter p v.consumers apart);
+  none = λ name h. q.none name;
+}
+
+-- the consumers stay
+evolves-same : (log : List Rec) (v : View) (does : Effect) → Apart v.consumers → does.consumers ≡ v.consumers → IsQuiet v does → Evolves log v does
+evolves-same log v does apart are q = record {
+  given = q.given;
+  made = None;
+  made_is = λ h same a. q.makes h;
+  new = λ d e. no_made (IsNew log v does) d e;
+  back = λ d here. inl (d, subst (λ (l : List ConsumerState). Contains l d) are here, grew-same log does.reply.packets d (q.none d.name));
+  apart = subst Apart (sym are) apart;
+  none = λ name h. q.none name;
+}
+
+-- a consumer is made, in place of others
+evolves-made : (log : List Rec) (v : View) (now : ℕ) (known : NameFacts) (name : List ℕ) (what : Wanted) (m : Made) → Before log v → live log name ≡ Some m → Evolves log v (makes_consumer v now known name what)
+evolves-made log v now known name what m b l =
+    let d : ConsumerState = new_consumer (next_name v) name what now in
+    let p : ConsumerState → Bool = λ c. not (serves name what.asker c) in
+    let does : Effect = makes_consumer v now known name what in
+    let among : Contains does.consumers d = Contains-append_right (filter p v.consumers) (d ∷ []) d (Contains-head d []) in
+    record {
+      given = omega arith;
+      made = Some d;
+      made_is = λ h same apart.
+          ap (just_made h.image) (ap (λ (l : List ConsumerState). standing_of l (next_name v)) same
+          ∙ standing-of does.consumers d apart among);
+      new = λ x e. (let same : d ≡ x = cc in subst (IsNew log v does) same (record { now = now; is = refl; given = omega arith; here = among; known = m; reads_it = l }));
+      back = λ x q. elim (Contains-append_cases (filter p v.consumers) (d ∷ []) x q) [
+        | inl old ↦ inl (x, filter-was p v.consumers x old, grew-same log does.reply.packets x refl)
+        | inr own ↦ inr (ap Some (Contains-one d x own))
+      ];
+      apart = Apart-push (filter p v.consumers) d (Apart-filter p v.consumers b.apart) (λ c q. b.fresh c (filter-was p v.consumers c q));
+      none = λ n h. refl;
+    }
+
+-- ---- a pump
+
+pumped_if : Bool → List Numbered → ℕ → ℕ → ConsumerState → ConsumerState
+pumped_if t rows budget now c = cond t (pumped rows budget now c) c
+
+pumped-name : (t : Bool) (rows : List Numbered) (budget now : ℕ) (c : ConsumerState) → (pumped_if t rows budget now c).name ≡ c.name
+unfolding pumped_if
+pumped-name true rows budget now c = refl
+pumped-name false rows budget now c = refl
+
+-- one consumer of several over a pump, by whether it reads the stream
+grew-pumps : Laws → (log : List Rec) (packets : List Packet) (name : List ℕ) (m : Made) (c : ConsumerState) (budget now : ℕ) (t : Bool) → reads_stream name c ≡ t → live log name ≡ Some m →
+    delivered c.name packets ≡ cond t (pump_rows (kept m.history) budget c) [] → Grew log packets c (pumped_if t (kept m.history) budget now c)
+unfolding pumped_if
+grew-pumps laws log packets name m c budget now true reads l sent = record {
+  name = refl;
+  stream = refl;
+  wanted = refl;
+  right = λ k s here rise ok.
+      let rows : List Numbered = pump_rows (kept m.history) budget c in
+      let same : m ≡ k = (let q : Some m ≡ Some k = sym l ∙ (ap (live log) (sym (same_bytes c.stream name reads)) ∙ here) in cc) in
+      let before : IsRight m.history c s = subst (λ (x : Made). IsRight x.history c s) (sym same) ok in
+      let after : IsRight m.history (pumped (kept m.history) budget now c) (with_rows s rows) = right-pump laws m.history c s budget now (subst (λ (x : Made). NumbersRise x.history.entries) (sym same) rise) before in
+      subst (λ (x : Made). IsRight x.history (pumped (kept m.history) budget now c) (answered_now (Some (pumped (kept m.history) budget now c)) (with_rows s (delivered c.name packets)))) same
+      (subst (λ (r : List Numbered). IsRight m.history (pumped (kept m.history) budget now c) (answered_now (Some (pumped (kept m.history) budget now c)) (with_rows s r))) (sym sent)
+      (subst (IsRight m.history (pumped (kept m.history) budget now c)) (sym (answered-is m.history (pumped (kept m.history) budget now c) (with_rows s rows) after)) after));
+}
+grew-pumps laws log packets name m c budget now false reads l sent = grew-same log packets c sent
+
+evolves-pumps : Laws → (log : List Rec) (v : View) (name : List ℕ) (m : Made) (rows : List Numbered) (budget now : ℕ) → Before log v → live log name ≡ Some m → rows ≡ kept m.history →
+    Evolves log v (sends v (flat_map (pump_packets rows budget) (consumers_of name v.consumers)) (for_stream name (pumped rows budget now) v.consumers) v.askers)
+unfolding pumped_if
+evolves-pumps laws log v name m rows budget now b l same =
+    let f : ConsumerState → ConsumerState = λ c. pumped_if (reads_stream name c) rows budget now c in
+    let g : ConsumerState → List Packet = pump_packets rows budget in
+    let packets : List Packet = flat_map g (consumers_of name v.consumers) in
+    record {
+      given = omega arith;
+      made = None;
+      made_is = λ h e a. refl;
+      new = λ d e. no_made (IsNew log v (sends v packets (for_stream name (pumped rows budget now) v.consumers) v.askers)) d e;
+      back = λ d here. let w = map-back f v.consumers d here in
+          inl (w.of, w.here, subst (Grew log packets w.of) (ap (λ r. pumped_if (reads_stream name w.of) r budget now w.of) (sym same) ∙ w.is)
+          (grew-pumps laws log packets name m w.of budget now (reads_stream name w.of) refl l
+          (delivered-one (reads_stream name) g w.of.name (λ d f. pump-else w.of.name d rows budget f) v.consumers w.of b.apart w.here refl
+          ∙ ap (λ r. cond (reads_stream name w.of) r []) (pump-own w.of rows budget ∙ ap (λ r. pump_rows r budget w.of) same))));
+      apart = Apart-map f (λ c. pumped-name (reads_stream name c) rows budget now c) v.consumers b.apart;
+      none = λ n h. delivered-none (reads_stream name) g n (λ d f. pump-else n d rows budget f) v.consumers
+          (λ c q e. h (f c) (map-on f v.consumers c q) (pumped-name (reads_stream name c) rows budget now c ∙ e));
+    }
+
+-- ---- records
+
+-- a message that is kept goes
+if_kept : View → List ℕ → NameFacts → ℕ → Option Message → Answered
+if_kept v name known seq None = Err refusal.NoMessage
+if_kept v name known seq (Some m) = Ok (writes v name known.stream (Del seq) outcome.Deleted)
+
+-- a message is shown where it was found
+if_found : View → Option Numbered → Answered
+if_found v None = Err refusal.NoMessage
+if_found v (Some row) = Ok (reads v (outcome.Found row))
+
+module _ (laws : Laws) (log : List Rec) (v : View) (b : Before log v) where
+  -- what is known of a stream that stands, by its log
+  pub live-known : (name : List ℕ) (known : NameFacts) → live_in v.image name ≡ Some known → (m : Made) × (live log name ≡ Some m) × (known_of (incarnation log name) m ≡ known)
+  live-known name known e = by (live log name) refl (sym ((images-tell log).live name) ∙ (ap (λ i. live_in i name) (sym b.image_is) ∙ e))
+    where
+      by : (o : Option Made) → live log name ≡ o → option_map (known_of (incarnation log name)) o ≡ Some known → (m : Made) × (live log name ≡ Some m) × (known_of (incarnation log name) m ≡ known)
+      by None l f = absurd (cc)
+      by (Some m) l f = (m, l, (cc))
+
+  may-by-image : (r : Rec) → MayFollowImage v.image r → MayFollow log r
+  may-by-image r may = (tell-legal log r).0 (subst (λ i. MayFollowImage i r) b.image_is may)
+
+  booted-image : 1 ≤ v.image.boot
+  booted-image = subst (λ n. 1 ≤ n) (sym ((images-tell log).boot) ∙ ap (λ (i : LogImage). i.boot) (sym b.image_is)) b.booted
+
+  -- nothing joins the log
+  adds-none : (does : Effect) → does.records ≡ [] → Adds log does
+  adds-none does e = record { one = None; are = e; may = λ r f. absurd (cc); no_boot = λ r f. absurd (cc); leaves = λ r f. absurd (cc) }
+
+  -- an entry joins the history of a stream that stands
+  adds-entry : (does : Effect) (name : List ℕ) (known : NameFacts) (e : Entry) → does.records ≡ Of name e ∷ [] → live_in v.image name ≡ Some known → EntryOk known.stream e → Adds log does
+  adds-entry does name known e are here ok =
+      let k = live-known name known here in
+      let f_is : facts k.0.history ≡ known.stream = ap (λ (x : NameFacts). x.stream) k.2 in
+      record {
+        one = Some (Of name e);
+        are = are;
+        may = λ r same. (let is : Of name e ≡ r = cc in subst (MayStand log) is (record {
+          follows = may-by-image (Of name e) (booted-image, known, here, record { fits = ok.fits; faultless = ok.faultless });
+          number = λ name2 e2 m is2 l no.
+              (let names : name ≡ name2 = cc in
+              let entries : e ≡ e2 = cc in
+              let same_made : k.0 ≡ m = (let s : Some k.0 ≡ Some m = sym k.1 ∙ (ap (live log) names ∙ l) in cc) in
+              let tell = facts-tell k.0.history in
+              let limits : known.stream.config.copies ≡ m.history.config.copies =
+              ap (λ (x : StreamFacts). x.config.copies) (sym f_is) ∙ (ap (λ (x : Config). x.copies) tell.limits
+              ∙ ((fit-keeps k.0.history (live-ok log name k.0 b.logs k.1).fit).copies ∙ ap (λ (x : Made). x.history.config.copies) same_made)) in
+              let lasts : known.stream.last ≡ last m.history.entries =
+              ap (λ (x : StreamFacts). x.last) (sym f_is) ∙ (tell.last ∙ ap (λ (x : Made). last x.history.entries) same_made) in
+              subst (λ n. Follows n e2) lasts (subst (Follows known.stream.last) entries (ok.number (ap is_mirror limits ∙ no))));
+        }));
+        no_boot = λ r same. (let is : Of name e ≡ r = cc in subst NoBoot is tt);
+        leaves = λ r same c q. (let is : Of name e ≡ r = cc in subst (λ x. Leaves x c.stream) is tt);
+      }
+
+  adds-create : (does : Effect) (c : Config) (now : ℕ) → does.records ≡ Create now c ∷ [] → does.consumers ≡ v.consumers → config_fault c ≡ None → live_in v.image c.name ≡ None → has_number v.image (Create now c) ≡ true → Adds log does
+  adds-create does c now are same fault free number =
+      let follows : MayFollow log (Create now c) = may-by-image (Create now c) (booted-image, record { free = free; faultless = fault; number = ltb-true (incarnation_in v.image c.name + 1) (2 ^ 63) number }) in
+      record {
+        one = Some (Create now c);
+        are = are;
+        may = λ r e. (let is : Create now c ≡ r = cc in subst (MayStand log) is (record { follows = follows; number = λ name2 e2 m is2 l no. absurd (cc) }));
+        no_boot = λ r e. (let is : Create now c ≡ r = cc in subst NoBoot is tt);
+        leaves = λ r e k q. (let is : Create now c ≡ r = cc in subst (λ x. Leaves x k.stream) is
+            (λ named. let w = b.reading k (subst (λ (l : List ConsumerState). Contains l k) same q) in
+            let z : None ≡ Some w.0 = sym follows.1.free ∙ (ap (live log) named ∙ w.1) in cc));
+      }
+
+  not_reads : (name : List ℕ) (c : ConsumerState) → not (reads_stream name c) ≡ true → name ≢ c.stream
+  not_reads name c t e = (let yes : reads_stream name c ≡ true = (bytes_decides c.stream name).1 (sym e) in let z : false ≡ true = ap not (sym yes) ∙ t in cc)
+
+  adds-remove : (does : Effect) (name : List ℕ) (known : NameFacts) → does.records ≡ Remove name ∷ [] → does.consumers ≡ filter (λ c. not (reads_stream name c)) v.consumers → live_in v.image name ≡ Some known → Adds log does
+  adds-remove does name known are same here = record {
+    one = Some (Remove name);
+    are = are;
+    may = λ r e. (let is : Remove name ≡ r = cc in subst (MayStand log) is (record { follows = may-by-image (Remove name) (booted-image, subst IsSome (sym here) tt); number = λ name2 e2 m is2 l no. absurd (cc) }));
+    no_boot = λ r e. (let is : Remove name ≡ r = cc in subst NoBoot is tt);
+    leaves = λ r e c q. (let is : Remove name ≡ r = cc in subst (λ x. Leaves x c.stream) is
+        (not_reads name c (filter-pass (λ x. not (reads_stream name x)) v.consumers c (subst (λ (l : List ConsumerState). Contains l c) same q))));
+  }
+
+  -- ---- row by row
+
+  same_Ok : (x y : Effect) → Ok {Effect} {ShardRefusal} x ≡ Ok y → x ≡ y
+  same_Ok x y e = cc
+
+  -- a call that reads
+  row-reads : (o : Outcome) → ((h : Held) → made_by o h ≡ []) → Row log v (reads v o)
+  row-reads o makes = record { adds = adds-none (reads v o) refl; evolves = evolves-same log v (reads v o) b.apart refl (record { given = omega arith; makes = makes; none = λ name. refl }) }
+
+  -- a call that writes an entry
+  row-writes : (name : List ℕ) (known : NameFacts) (e : Entry) (o : Outcome) → ((h : Held) → made_by o h ≡ []) → live_in v.image name ≡ Some known → EntryOk known.stream e → Row log v (writes v name known.stream e o)
+  row-writes name known e o makes here ok = record {
+    adds = adds-entry (writes v name known.stream e o) name known e refl here ok;
+    evolves = evolves-same log v (writes v name known.stream e o) b.apart refl (record { given = omega arith; makes = makes; none = λ n. refl });
+  }
+
+  -- an entry that takes something, or none
+  row-takes : (does : Effect) (name : List ℕ) (known : NameFacts) (e : Entry) (count : ℕ) (o : Outcome) (t : Bool) → ((h : Held) → made_by o h ≡ []) → live_in v.image name ≡ Some known → EntryOk known.stream e →
+      Ok does ≡ cond t (Ok {Effect} {ShardRefusal} (reads v o)) (Ok (writes v name known.stream e o)) → Row log v does
+  row-takes does name known e count o true makes here ok q = subst (Row log v) (sym (same_Ok does (reads v o) q)) (row-reads o makes)
+  row-takes does name known e count o false makes here ok q = subst (Row log v) (sym (same_Ok does (writes v name known.stream e o) q)) (row-writes name known e o makes here ok)
+
+  row-create : (c : Config) (now : ℕ) → config_fault c ≡ None → live_in v.image c.name ≡ None → has_number v.image (Create now c) ≡ true → Row log v (creates v c now)
+  row-create c now fault free number = record {
+    adds = adds-create (creates v c now) c now refl refl fault free number;
+    evolves = evolves-same log v (creates v c now) b.apart refl (record { given = omega arith; makes = λ h. refl; none = λ name. asks-none name (with_record v (Create now c)) (copies_under (with_record v (Create now c)).image c.name) });
+  }
+
+  new_by : (does : Effect) (c : Config) (now : ℕ) (t : Bool) → ((r : Rec) → does.records ≡ r ∷ [] → has_number v.image r ≡ true) → config_fault c ≡ None → live_in v.image c.name ≡ None →
+      Ok does ≡ cond t (Err {Effect} refusal.TooManyStreams) (Ok (creates v c now)) → Row log v does
+  new_by does c now true number fault free q = absurd (cc)
+  new_by does c now false number fault free q =
+      let same = same_Ok does (creates v c now) q in
+      subst (Row log v) (sym same) (row-create c now fault free (number (Create now c) (ap (λ (x : Effect). x.records) same)))
+
+  create_by : (does : Effect) (c : Config) (now : ℕ) (fault : Option (List ℕ)) (o : Option NameFacts) → ((r : Rec) → does.records ≡ r ∷ [] → has_number v.image r ≡ true) → config_fault c ≡ fault → live_in v.image c.name ≡ o → Creates v c now fault o (Ok does) → Row log v does
+  create_by does c now (Some member) o number e f a = absurd (cc)
+  create_by does c now None (Some known) number e f a = elim a [
+    | inl same ↦ subst (Row log v) (sym (same_Ok does (reads v (outcome.Made false)) same.1)) (row-reads (outcome.Made false) (λ h. refl))
+    | inr other ↦ (let z = other.1 in absurd (cc))
+  ]
+  create_by does c now None None number e f a = new_by does c now (leb 256 (length (live_names v.image))) number e f a
+
+  update_by : (does : Effect) (c : Config) (fault : Option (List ℕ)) (o : Option NameFacts) → config_fault c ≡ fault → live_in v.image c.name ≡ o → Updates v c fault o (Ok does) → Row log v does
+  update_by does c fault None e f a = absurd (cc)
+  update_by does c (Some member) (Some known) e f a = absurd (cc)
+  update_by does c None (Some known) e f a = elim a [
+    | inl keeps ↦ subst (Row log v) (sym (same_Ok does (writes v c.name known.stream (Limits c) outcome.Updated) keeps.1))
+        (row-writes c.name known (Limits c) outcome.Updated (λ h. refl) f (record { fits = keeps.0; faultless = e; number = λ no. tt }))
+    | inr changes ↦ (let z = changes.1 in absurd (cc))
+  ]
+
+  remove_by : (does : Effect) (name : List ℕ) (o : Option NameFacts) → live_in v.image name ≡ o → Ok does ≡ removes v name o → Row log v does
+  remove_by does name None f a = absurd (cc)
+  remove_by does name (Some known) f a =
+      let p : ConsumerState → Bool = λ c. not (reads_stream name c) in
+      let same = same_Ok does _ a in
+      subst (Row log v) (sym same) (record {
+        adds = adds-remove _ name known refl refl f;
+        evolves = evolves-filter log v _ p b.apart refl (record { given = omega arith; makes = λ h. refl; none = λ n. refl });
+      })
+
+  -- ---- messages
+
+  fresh-end : (o : Option Refusal) → fresh_or o ≡ Ok Fresh → o ≡ None
+  fresh-end None e = refl
+  fresh-end (Some r) e = absurd (cc)
+
+  repeat-end : (o : Option ℕ) (r : Option Refusal) → repeat_or o r ≡ Ok Fresh → r ≡ None
+  repeat-end None r e = fresh-end r e
+  repeat-end (Some n) r e = absurd (cc)
+
+  verdict-end : (o : Option Refusal) (n : Option ℕ) (r : Option Refusal) → verdict_behind o n r ≡ Ok Fresh → r ≡ None
+  verdict-end None n r e = repeat-end n r e
+  verdict-end (Some w) n r e = absurd (cc)
+
+  passes : {A : Type 0} (t : Bool) (x : A) (o : Option A) → cond t (Some x) o ≡ None → (t ≡ false) × (o ≡ None)
+  passes true x o e = absurd (cc)
+  passes false x o e = (refl, e)
+
+  -- a publish that is new doesn't stand at the end of all numbers
+  fresh-last : (f : StreamFacts) (m : Message) (now : ℕ) → verdict_by_facts f m now ≡ Ok Fresh → eqb f.last (2 ^ 63 - 1) ≡ false
+  fresh-last f m now e =
+      let later = verdict-end (earlier_refusal f.config m) (repeat_by_facts f (first_value (codes "Nats-Msg-Id") m.headers) now) (later_refusal f.config m f.rows f.last) e in
+      (passes _ _ _ (passes _ _ _ (passes _ _ _ (passes _ _ _ later).1).1).1).0
+
+  publish_by : (does : Effect) (name : List ℕ) (known : NameFacts) (m : Message) (now : ℕ) (r : Result Verdict Refusal) → live_in v.image name ≡ Some known → verdict_by_facts known.stream m now ≡ r → Ok does ≡ publishes_by v name known.stream m now r → Row log v does
+  publish_by does name known m now (Ok Fresh) here e a =
+      let k = live-known name known here in
+      let f_is : facts k.0.history ≡ known.stream = ap (λ (x : NameFacts). x.stream) k.2 in
+      let below : known.stream.last < 2 ^ 63 =
+      subst (λ n. n < 2 ^ 63) (sym (facts-tell k.0.history).last ∙ ap (λ (x : StreamFacts). x.last) f_is) (fit-bound k.0.history (live-ok log name k.0 b.logs k.1).fit) in
+      let other : known.stream.last ≢ 2 ^ 63 - 1 = eqb-false known.stream.last (2 ^ 63 - 1) (fresh-last known.stream m now e) in
+      subst (Row log v) (sym (same_Ok does _ a))
+      (row-writes name known (Put (known.stream.last + 1) (at_time (max now known.stream.clock) m) None) (outcome.Stored (known.stream.last + 1)) (λ h. refl) here
+      (record { fits = (omega arith, omega arith, tt); faultless = tt; number = λ no. refl }))
+  publish_by does name known m now (Ok (IsDuplicate seq)) here e a = subst (Row log v) (sym (same_Ok does (reads v (outcome.Duplicate seq)) a)) (row-reads (outcome.Duplicate seq) (λ h. refl))
+  publish_by does name known m now (Err why) here e a = absurd (cc)
+
+  subject_by : (does : Effect) (name : List ℕ) (known : NameFacts) (m : Message) (now : ℕ) (t : Bool) → live_in v.image name ≡ Some known →
+      Ok does ≡ cond t (publishes_by v name known.stream (transformed known.stream.config m) now (verdict_by_facts known.stream (transformed known.stream.config m) now)) (Err refusal.NoStream) → Row log v does
+  subject_by does name known m now true here a = publish_by does name known (transformed known.stream.config m) now (verdict_by_facts known.stream (transformed known.stream.config m) now) here refl a
+  subject_by does name known m now false here a = absurd (cc)
+
+  publishes_row : (does : Effect) (name : List ℕ) (m : Message) (now : ℕ) (o : Option NameFacts) → live_in v.image name ≡ o → Ok does ≡ publishes v name m now o → Row log v does
+  publishes_row does name m now None here a = absurd (cc)
+  publishes_row does name m now (Some known) here a = subject_by does name known m now (takes_subject known.stream.config m.subject) here a
+
+  delete_by : (does : Effect) (name : List ℕ) (known : NameFacts) (seq : ℕ) (o : Option Message) → live_in v.image name ≡ Some known → message_at seq known.stream.rows ≡ o → Ok does ≡ if_kept v name known seq o → Row log v does
+  unfolding if_kept
+  delete_by does name known seq None here e a = absurd (cc)
+  delete_by does name known seq (Some m) here e a = subst (Row log v) (sym (same_Ok does _ a))
+      (row-writes name known (Del seq) outcome.Deleted (λ h. refl) here (record { fits = subst IsSome (sym e) tt; faultless = tt; number = λ no. tt }))
+
+  deletes_row : (does : Effect) (name : List ℕ) (seq : ℕ) (o : Option NameFacts) → live_in v.image name ≡ o → Ok does ≡ deletes v name seq o → Row log v does
+  unfolding if_kept
+  deletes_row does name seq None here a = absurd (cc)
+  deletes_row does name seq (Some known) here a = delete_by does name known seq (message_at seq known.stream.rows) here refl a
+
+  purges_row : (does : Effect) (name pattern : List ℕ) (below : Option ℕ) (o : Option NameFacts) → live_in v.image name ≡ o → Ok does ≡ purges v name pattern below o → Row log v does
+  purges_row does name pattern below None here a = absurd (cc)
+  purges_row does name pattern below (Some known) here a =
+      let end : ℕ = below_or_all below known.stream.last in
+      let count : ℕ = count_by (is_purged pattern end) known.stream.rows in
+      row-takes does name known (Purge pattern end) count (outcome.Purged count) (eqb count 0) (λ h. refl) here (record { fits = tt; faultless = tt; number = λ no. tt }) a
+
+  expires_row : (does : Effect) (name : List ℕ) (now : ℕ) (o : Option NameFacts) → live_in v.image name ≡ o → Ok does ≡ expires v name now o → Row log v does
+  expires_row does name now None here a = absurd (cc)
+  expires_row does name now (Some known) here a =
+      let count : ℕ = count_by (is_expired known.stream.config.max_age now) known.stream.rows in
+      row-takes does name known (Expire now) count (outcome.Expired count) (eqb count 0) (λ h. refl) here (record { fits = tt; faultless = tt; number = λ no. tt }) a
+
+  get_by : (does : Effect) (o : Option Numbered) → Ok does ≡ if_found v o → Row log v does
+  unfolding if_found
+  get_by does None a = absurd (cc)
+  get_by does (Some row) a = subst (Row log v) (sym (same_Ok does (reads v (outcome.Found row)) a)) (row-reads (outcome.Found row) (λ h. refl))
+
+  gets_row : (does : Effect) (which : Which) (o : Option NameFacts) → Ok does ≡ gets v which o → Row log v does
+  unfolding if_found
+  gets_row does which None a = absurd (cc)
+  gets_row does which (Some known) a = get_by does (row_by known.stream.rows which) a
+
+  informs_row : (does : Effect) (name : List ℕ) (o : Option NameFacts) → Ok does ≡ informs v name o → Row log v does
+  informs_row does name None a = absurd (cc)
+  informs_row does name (Some known) a = subst (Row log v) (sym (same_Ok does _ a)) (row-reads _ (λ h. refl))
+
+  -- ---- consumers
+
+  row-sends : (packets : List Packet) (consumers : List ConsumerState) (askers : Askers) → Evolves log v (sends v packets consumers askers) → Row log v (sends v packets consumers askers)
+  row-sends packets consumers askers e = record { adds = adds-none (sends v packets consumers askers) refl; evolves = e }
+
+  row-makes : (now : ℕ) (known : NameFacts) (name : List ℕ) (what : Wanted) → live_in v.image name ≡ Some known → Row log v (makes_consumer v now known name what)
+  row-makes now known name what here =
+      let k = live-known name known here in
+      record { adds = adds-none (makes_consumer v now known name what) refl; evolves = evolves-made log v now known name what k.0 b k.1 }
+
+  make_by : (does : Effect) (now : ℕ) (known : NameFacts) (name : List ℕ) (what : Wanted) (t : Bool) (why : ShardRefusal) → live_in v.image name ≡ Some known → Ok does ≡ cond t (Ok (makes_consumer v now known name what)) (Err why) → Row log v does
+  make_by does now known name what true why here a = subst (Row log v) (sym (same_Ok does _ a)) (row-makes now known name what here)
+  make_by does now known name what false why here a = absurd (cc)
+
+  make_unless : (does : Effect) (now : ℕ) (known : NameFacts) (name : List ℕ) (what : Wanted) (t : Bool) (why : ShardRefusal) → live_in v.image name ≡ Some known → Ok does ≡ cond t (Err why) (Ok (makes_consumer v now known name what)) → Row log v does
+  make_unless does now known name what true why here a = absurd (cc)
+  make_unless does now known name what false why here a = subst (Row log v) (sym (same_Ok does _ a)) (row-makes now known name what here)
+
+  make_for : (does : Effect) (now : ℕ) (known : NameFacts) (name : List ℕ) (what : Wanted) (present : Option ConsumerState) → live_in v.image name ≡ Some known → Ok does ≡ makes_for v now known name what present → Row log v does
+  make_for does now known name what None here a = make_unless does now known name what (leb 1024 (count_by (reads_stream name) v.consumers)) refusal.TooManyConsumers here a
+  make_for does now known name what (Some present) here a = make_by does now known name what (is_earlier present.wanted.attempt what.attempt) (refusal.OldAttempt present.wanted.attempt what.attempt) here a
+
+  make_asked : (does : Effect) (now : ℕ) (name : List ℕ) (asker : AskerId) (attempt : Stamp) (origin : List ℕ) (start : Start) (filters : List (List ℕ)) (o : Option NameFacts) → live_in v.image name ≡ o → Ok does ≡ makes_asked v now name asker attempt origin start filters o → Row log v does
+  make_asked does now name asker attempt origin start filters None here a = absurd (cc)
+  make_asked does now name asker attempt origin start filters (Some known) here a =
+      make_for does now known name (record { asker = asker; attempt = attempt; origin = origin; start = consumer_start known.stream start; filters = filters }) (find (serves name asker) v.consumers) here a
+
+  makes_row : (does : Effect) (now : ℕ) (ask : Packet) → Ok does ≡ makes v now ask → Row log v does
+  makes_row does now (Ask asker attempt origin stream start filters) a = make_asked does now stream asker attempt origin start filters (live_in v.image stream) refl a
+  makes_row does now (Answer asker attempt consumer incarnation start) a = absurd (cc)
+  makes_row does now (Refuse asker attempt code err_code) a = absurd (cc)
+  makes_row does now (Delivery asker attempt stream consumer number seq pending message) a = absurd (cc)
+  makes_row does now (Beat asker attempt origin stream consumer last_number last_seq stalled) a = absurd (cc)
+  makes_row does now (FlowAsk asker attempt origin stream consumer token) a = absurd (cc)
+  makes_row does now (FlowReply origin stream consumer token) a = absurd (cc)
+
+  pumps_row : (does : Effect) (name : List ℕ) (budget now : ℕ) (o : Option NameFacts) → live_in v.image name ≡ o → Ok does ≡ pumps v name budget now o → Row log v does
+  pumps_row does name budget now None here a = absurd (cc)
+  pumps_row does name budget now (Some known) here a =
+      let k = live-known name known here in
+      let rows : known.stream.rows ≡ kept k.0.history = ap (λ (x : NameFacts). x.stream.rows) (sym k.2) ∙ (facts-tell k.0.history).rows in
+      subst (Row log v) (sym (same_Ok does _ a)) (row-sends _ _ _ (evolves-pumps laws log v name k.0 known.stream.rows budget now b k.1 rows))
+
+  -- an answer to a flow request
+  same_sent : (t : Bool) (s : Sendings) (token : ℕ) → (cond t (record s { answered = token }) s).sent ≡ s.sent
+  same_sent true s token = refl
+  same_sent false s token = refl
+
+  token_if : Bool → Bool → ℕ → ConsumerState → ConsumerState
+  token_if t u token c = cond t (cond u (takes_token token c) c) c
+
+  token-changes : (t u : Bool) (token : ℕ) (c : ConsumerState) → ((token_if t u token c).name ≡ c.name) × ((token_if t u token c).stream ≡ c.stream) × ((token_if t u token c).wanted ≡ c.wanted) × StaysRight c (token_if t u token c)
+  unfolding token_if
+  token-changes true true token c = (refl, refl, refl, λ h s ok. (answered_to token c s, same_sent (is_awaited token c.progress) s token, laws.answers_right h c s token ok))
+  token-changes true false token c = (refl, refl, refl, still-right c)
+  token-changes false u token c = (refl, refl, refl, still-right c)
+
+  tokens_row : (does : Effect) (stream : List ℕ) (consumer : Stamp) (token : ℕ) (o : Option NameFacts) → Ok does ≡ takes_at v stream consumer token o → Row log v does
+  unfolding token_if
+  tokens_row does stream consumer token None a = absurd (cc)
+  tokens_row does stream consumer token (Some known) a =
+      let f : ConsumerState → ConsumerState = λ c. token_if (reads_stream stream c) (same_stamp c.name consumer) token c in
+      let new : List ConsumerState = for_stream stream (λ c. cond (same_stamp c.name consumer) (takes_token token c) c) v.consumers in
+      subst (Row log v) (sym (same_Ok does (sends v [] new v.askers) a)) (row-sends [] new v.askers
+      (evolves-map log v (sends v [] new v.askers) f b.apart refl (record { given = omega arith; makes = λ h. refl; none = λ n. refl }) (record {
+        name = λ c. (token-changes (reads_stream stream c) (same_stamp c.name consumer) token c).0;
+        stream = λ c. (token-changes (reads_stream stream c) (same_stamp c.name consumer) token c).1;
+        wanted = λ c. (token-changes (reads_stream stream c) (same_stamp c.name consumer) token c).2;
+        right = λ c. (token-changes (reads_stream stream c) (same_stamp c.name consumer) token c).3;
+      })))
+
+  replies_row : (does : Effect) (packet : Packet) → Ok does ≡ takes_reply v packet → Row log v does
+  replies_row does (Ask asker attempt origin stream start filters) a = absurd (cc)
+  replies_row does (Answer asker attempt consumer incarnation start) a = absurd (cc)
+  replies_row does (Refuse asker attempt code err_code) a = absurd (cc)
+  replies_row does (Delivery asker attempt stream consumer number seq pending message) a = absurd (cc)
+  replies_row does (Beat asker attempt origin stream consumer last_number last_seq stalled) a = absurd (cc)
+  replies_row does (FlowAsk asker attempt origin stream consumer token) a = absurd (cc)
+  replies_row does (FlowReply origin stream consumer token) a = tokens_row does stream consumer token (live_in v.image stream) a
+
+  -- ---- links and time
+
+  pause_if : Bool → Bool → ConsumerState → ConsumerState
+  pause_if t there c = cond t (record c { paused = not there }) c
+
+  pause-changes : (t there : Bool) (c : ConsumerState) → ((pause_if t there c).name ≡ c.name) × ((pause_if t there c).stream ≡ c.stream) × ((pause_if t there c).wanted ≡ c.wanted) × StaysRight c (pause_if t there c)
+  unfolding pause_if
+  pause-changes true there c = (refl, refl, refl, λ h s ok. (s, refl, laws.pauses_right h c s (not there) ok))
+  pause-changes false there c = (refl, refl, refl, still-right c)
+
+  paused-changes : (node : List ℕ) (there : Bool) → Changes (paused_for node there)
+  unfolding pause_if
+  paused-changes node there = record {
+    name = λ c. (pause-changes (bytes_eq c.wanted.asker.node node) there c).0;
+    stream = λ c. (pause-changes (bytes_eq c.wanted.asker.node node) there c).1;
+    wanted = λ c. (pause-changes (bytes_eq c.wanted.asker.node node) there c).2;
+    right = λ c. (pause-changes (bytes_eq c.wanted.asker.node node) there c).3;
+  }
+
+  reaches_row : (node : List ℕ) (there : Bool) (now : ℕ) → Row log v (reaches v node there now)
+  reaches_row node true now = record {
+    adds = adds-none (reaches v node true now) refl;
+    evolves = evolves-map log v (reaches v node true now) (paused_for node true) b.apart refl (record { given = omega arith; makes = λ h. refl; none = λ n. asks-none n v (copies_of_node v node) }) (paused-changes node true);
+  }
+  reaches_row node false now = record {
+    adds = adds-none (reaches v node false now) refl;
+    evolves = evolves-map log v (reaches v node false now) (paused_for node false) b.apart refl (record { given = omega arith; makes = λ h. refl; none = λ n. refl }) (paused-changes node false);
+  }
+
+  beat_if : Bool → ℕ → ConsumerState → ConsumerState
+  beat_if t now c = cond t (record c { moment = now }) c
+
+  beat-changes : (t : Bool) (now : ℕ) (c : ConsumerState) → ((beat_if t now c).name ≡ c.name) × ((beat_if t now c).stream ≡ c.stream) × ((beat_if t now c).wanted ≡ c.wanted)
+  unfolding beat_if
+  beat-changes true now c = (refl, refl, refl)
+  beat-changes false now c = (refl, refl, refl)
+
+  beats-changes : (now : ℕ) → Changes (after_beat now)
+  unfolding beat_if
+  beats-changes now = record {
+    name = λ c. (beat-changes (beats now c) now c).0;
+    stream = λ c. (beat-changes (beats now c) now c).1;
+    wanted = λ c. (beat-changes (beats now c) now c).2;
+    right = λ c h s ok. (s, refl, laws.beats_right h c s now ok);
+  }
+
+  ticks_row : (now : ℕ) → Row log v (ticks v now)
+  ticks_row now = record {
+    adds = adds-none (ticks v now) refl;
+    evolves = evolves-map log v (ticks v now) (after_beat now) b.apart refl (record {
+      given = omega arith;
+      makes = λ h. refl;
+      none = λ n. append-none n (flat_map (beats_of v now) (live_names v.image)) (asks_of v (due_copies v now)) (flat-none n (beats_of v now) (beats-none n v now) (live_names v.image)) (asks-none n v (due_copies v now));
+    }) (beats-changes now);
+  }
+
+  -- ---- packets for copies
+
+  quiet-row : (does : Effect) → does.records ≡ [] → does.consumers ≡ v.consumers → IsQuiet v does → Row log v does
+  quiet-row does none same q = record { adds = adds-none does none; evolves = evolves-same log v does b.apart same q }
+
+  entry-row : (does : Effect) (c : Copy) (e : Entry) → does.records ≡ Of c.stream e ∷ [] → does.consumers ≡ v.consumers → IsQuiet v does → IsCopyOf v.image c → EntryOk c.facts e → Row log v does
+  entry-row does c e are same q is ok = record { adds = adds-entry does c.stream is.known e are is.here (subst (λ (f : StreamFacts). EntryOk f e) is.facts ok); evolves = evolves-same log v does b.apart same q }
+
+  follows_row : (c : Copy) (now : ℕ) (packet : Packet) (phase : Phase) (d : Decision) → IsCopyOf v.image c → IfEntry (EntryOk c.facts) d → Row log v (follows v c now packet phase d)
+  follows_row c now packet phase (Store e) is ok = entry-row (follows v c now packet phase (Store e)) c e refl refl (record { given = omega arith; makes = λ h. refl; none = λ n. refl }) is ok
+  follows_row c now packet phase (Binds e) is ok = entry-row (follows v c now packet phase (Binds e)) c e refl refl (record { given = omega arith; makes = λ h. refl; none = λ n. refl }) is ok
+  follows_row c now packet phase Rebind is ok = quiet-row (follows v c now packet phase Rebind) refl refl (record { given = omega arith; makes = λ h. refl; none = λ n. refl })
+  follows_row c now packet phase Skip is ok = quiet-row (follows v c now packet phase Skip) refl refl (record { given = omega arith; makes = λ h. refl; none = λ n. refl })
+  follows_row c now packet phase (Ignore why) is ok = row-reads (outcome.Heard (Ignore why)) (λ h. refl)
+  follows_row c now packet phase (AskAgain why) is ok = quiet-row (follows v c now packet phase (AskAgain why)) refl refl (record { given = omega arith; makes = λ h. refl; none = λ n. refl })
+  follows_row c now packet phase Reply is ok = quiet-row (follows v c now packet phase Reply) refl refl (record { given = omega arith; makes = λ h. refl; none = λ n. flow-none n packet })
+  follows_row c now packet phase Hears is ok = quiet-row (follows v c now packet phase Hears) refl refl (record { given = omega arith; makes = λ h. refl; none = λ n. refl })
+  follows_row c now packet phase IsRefused is ok = row-reads (outcome.Heard IsRefused) (λ h. refl)
+  follows_row c now packet phase (Stop kept seen) is ok = quiet-row (follows v c now packet phase (Stop kept seen)) refl refl (record { given = omega arith; makes = λ h. refl; none = λ n. refl })
+
+  hears_row : (now : ℕ) (packet : Packet) (o : Option Copy) → copy_of_asker v (addressee packet) ≡ o → Row log v (hears v now packet o)
+  hears_row now packet None e = row-reads (outcome.Heard (Ignore Foreign)) (λ h. refl)
+  hears_row now packet (Some c) e =
+      let is = heard-copy v (addressee packet) c e in
+      follows_row c now packet (asker_of v c).phase (decided_by c.facts.config.copies v c now packet) is (decided-ok v c now packet is)
+
+  -- ---- the table
+
+  quiet-sends : (askers : Askers) → Row log v (sends v [] v.consumers askers)
+  quiet-sends askers = quiet-row (sends v [] v.consumers askers) refl refl (record { given = omega arith; makes = λ h. refl; none = λ n. refl })
+
+  -- What is answered adds what may stand, and leaves what consumers have sent right.
+  pub row-of : (c : ShardCall) (does : Effect) → ((r : Rec) → does.records ≡ r ∷ [] → has_number v.image r ≡ true) → Answers v c (Ok does) → Row log v does
+  row-of (call.Create config now) does number a = create_by does config now (config_fault config) (live_in v.image config.name) number refl refl a
+  row-of (call.Update config) does number a = update_by does config (config_fault config) (live_in v.image config.name) refl refl a
+  row-of (call.Remove name) does number a = remove_by does name (live_in v.image name) refl a
+  row-of (call.Publish name message now) does number a = publishes_row does name message now (live_in v.image name) refl a
+  row-of (call.Delete name seq) does number a = deletes_row does name seq (live_in v.image name) refl a
+  row-of (call.Purge name pattern below) does number a = purges_row does name pattern below (live_in v.image name) refl a
+  row-of (call.Expire name now) does number a = expires_row does name now (live_in v.image name) refl a
+  row-of (call.Get name which) does number a = gets_row does which (live_in v.image name) a
+  row-of (call.Info name) does number a = informs_row does name (live_in v.image name) a
+  row-of call.Names does number a = subst (Row log v) (sym (same_Ok does _ a)) (row-reads (outcome.Listed (live_names v.image)) (λ h. refl))
+  row-of (call.MakeConsumer ask now) does number a = makes_row does now ask a
+  row-of (call.Pump name budget now) does number a = pumps_row does name budget now (live_in v.image name) refl a
+  row-of (call.FlowReply packet) does number a = replies_row does packet a
+  row-of (call.Reach node there now) does number a = subst (Row log v) (sym (same_Ok does _ a)) (reaches_row node there now)
+  row-of (call.Heard packet now) does number a = subst (Row log v) (sym (same_Ok does _ a)) (hears_row now packet (copy_of_asker v (addressee packet)) refl)
+  row-of (call.Tick now) does number a = subst (Row log v) (sym (same_Ok does _ a)) (ticks_row now)
+  row-of call.LinkLost does number a = subst (Row log v) (sym (same_Ok does _ a)) (quiet-sends (idle_askers v.askers))

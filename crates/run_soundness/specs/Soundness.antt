@@ -17,8 +17,7 @@ use Rattle.stream_fold.specs.Facts.{facts}
 use Rattle.stream_fold.specs.Histories.{History, put, IsHole}
 use Rattle.stream_fold.specs.Sourcing.{via}
 use Rattle.record_codec.specs.declared.records.Rec.{Rec}
-use Rattle.push_consumer.specs.Chains.{IsRight, chain}
-use Rattle.push_consumer.specs.Progress.{ConsumerState}
+use Rattle.push_consumer.specs.Chains.{chain}
 use Rattle.replica_ask.specs.Askers.{AskerState}
 use Rattle.replica_ask.specs.Filters.{filters_of}
 use Rattle.replica_ask.specs.declared.phase.Phase.{Phase}
@@ -27,7 +26,7 @@ use Rattle.shard_machine.specs.Logs.{Made, boot, made, live}
 use Rattle.shard_machine.specs.Legal.{MayFollow}
 use Rattle.shard_machine.specs.Views.{Copy, reached, node_or, askers_of, asker_or_new, ask_start}
 use Rattle.shard_machine.specs.Steps.{Held}
-use Rattle.run_soundness.specs.Shards.{Consumer, ShardState, Distinct, IsGiven, IsRead}
+use Rattle.run_soundness.specs.Shards.{Consumer, ShardState, Distinct, IsGiven, IsRead, ReadsRight}
 use Rattle.run_soundness.specs.Worlds.{World, shard_of}
 
 -- ---- 1. names are given once
@@ -47,16 +46,6 @@ pub record NamesOnce (w : World) : Type 0 where
       IsGiven (boot (w.shard a.node (shard_of a.stream)).log) (asker_at (w.shard a.node (shard_of a.stream)).held a).attempts attempt
 
 -- ---- 2. chains skip holes alone
-
--- What a consumer has sent is right for the stream that it reads: it rises from its start, each of it was put and
--- wanted, what was left out is a hole, its flow requests are numbered from 1, and it is within the window. The
--- state is the one in which it stands, or last stood.
-pub record ReadsRight (log : List Rec) (c : Consumer) : Type 0 where
-  pub origin : Made
-  pub reads : IsRead log c origin
-  pub state : ConsumerState
-  pub wanted : state.wanted ≡ c.wanted
-  pub right : IsRight origin.history state c.sent
 
 -- all that consumers ever sent is right
 pub record ChainsRight (w : World) : Type 0 where

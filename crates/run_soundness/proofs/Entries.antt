@@ -196,12 +196,12 @@ reached-is a g want fit =
     ∙ reached-by g.config.copies a.index want g)
 
 -- where a copy asks from, by what it is bound to
-abbrev pub asks_from : Option BoundTo → Copy → Start
-asks_from None c = c.want.start
-asks_from (Some to) c = Seq (reached c + 1)
+abbrev pub asks_from : Copy → Option BoundTo → Start
+asks_from c None = c.want.start
+asks_from c (Some to) = Seq (reached c + 1)
 
-pub ask_start-is : (a : AskerId) (g : History) (want : Origin) → ask_start (copy_of a g want) ≡ asks_from (bound a.index g.entries) (copy_of a g want)
-ask_start-is a g want = ap (λ (o : Option BoundTo). asks_from o (copy_of a g want)) ((facts-tell g).bound a.index)
+pub ask_start-is : (a : AskerId) (g : History) (want : Origin) → ask_start (copy_of a g want) ≡ asks_from (copy_of a g want) (bound a.index g.entries)
+ask_start-is a g want = ap (λ (o : Option BoundTo). asks_from (copy_of a g want) o) ((facts-tell g).bound a.index)
 
 -- ---- the last mark is the greatest
 

@@ -122,14 +122,14 @@ stored-forth Nothing i g e s p q = q
 stored-forth (Mirror o) i g e s p q = (q.0, put-passes g.entries e s (p.mirror o refl).0 ∙ q.1)
 stored-forth (Sources os) i g e s p q = subst (λ (l : List Stored). Contains (map (λ (r : Stored). r.mark) l) s) (sym (stored-passes i g.entries e p.passes)) q
 
-asks-passes : (a : AskerId) (g : History) (want : Origin) (e : Entry) (o : Option BoundTo) → BothFit g e → PassesCopy g.config.copies a.index e → asks_from o (copy_of a (with_entry g e) want) ≡ asks_from o (copy_of a g want)
+asks-passes : (a : AskerId) (g : History) (want : Origin) (e : Entry) (o : Option BoundTo) → BothFit g e → PassesCopy g.config.copies a.index e → asks_from (copy_of a (with_entry g e) want) o ≡ asks_from (copy_of a g want) o
 asks-passes a g want e None f p = refl
 asks-passes a g want e (Some to) f p = ap (λ x. Seq (x + 1)) (reached-passes a g want e f p)
 
 pub ask_start-passes : (a : AskerId) (g : History) (want : Origin) (e : Entry) → BothFit g e → PassesCopy g.config.copies a.index e → ask_start (copy_of a (with_entry g e) want) ≡ ask_start (copy_of a g want)
 ask_start-passes a g want e f p =
     ask_start-is a (with_entry g e) want
-    ∙ (ap (λ (o : Option BoundTo). asks_from o (copy_of a (with_entry g e) want)) (bound-passes a.index g.entries e p.passes)
+    ∙ (ap (λ (o : Option BoundTo). asks_from (copy_of a (with_entry g e) want) o) (bound-passes a.index g.entries e p.passes)
     ∙ (asks-passes a g want e (bound a.index g.entries) f p
     ∙ sym (ask_start-is a g want)))
 

@@ -1,1 +1,3 @@
 pub mod Shards
+pub mod Worlds
+pub mod Soundness

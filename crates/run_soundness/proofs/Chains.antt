@@ -1,6 +1,6 @@
 -- What a consumer has sent stays right: over a pump, and as its stream grows.
-use Rattle.std.proofs.Common.{◌≡◌, ◌≢◌, ℕ, ◌+◌, ◌-◌, ◌<◌, max, Bool, true, false, cond, ◌||◌, eqb, List, [], ◌∷◌, ◌++◌, length, Option, Some, None, refl, sym, ap, ◌∙◌, subst, append_assoc, append-nil, inl, inr}
-use Rattle.std.specs.Prelude.{map, flat_map, filter, option_map, nat_lt, codes, Contains}
+use Rattle.std.proofs.Common.{◌≡◌, ◌≢◌, ℕ, ◌+◌, ◌-◌, max, Bool, true, false, cond, ◌||◌, eqb, List, [], ◌∷◌, ◌++◌, length, Option, Some, None, refl, sym, ap, ◌∙◌, subst, append-nil, inl, inr}
+use Rattle.std.specs.Prelude.{flat_map, filter, option_map, codes, Contains}
 use Rattle.std.specs.Str.{bytes_eq}
 use Rattle.std.specs.Cmp.Lexicographic.{bytes_decides}
 use Rattle.std.proofs.lemmas.Grind.{flat_map-append}
@@ -8,7 +8,7 @@ use Rattle.nats_text.specs.Headers.{first_value}
 use Rattle.nats_text.specs.declared.message.Message.{Message}
 use Rattle.nats_text.specs.declared.message.Stamp.{Stamp}
 use Rattle.js_wire.specs.declared.packet.Packet.{Packet}
-use Rattle.js_wire.specs.declared.packet.Packet.TheVariants.{Ask, Answer, Refuse, Delivery, Beat, FlowAsk, FlowReply}
+use Rattle.js_wire.specs.declared.packet.Packet.TheVariants.{FlowAsk}
 use Rattle.stream_fold.specs.declared.entry.Entry.{Entry}
 use Rattle.stream_fold.specs.declared.entry.Entry.TheVariants.{Put, Del, Purge, Expire, Bind, Limits}
 use Rattle.stream_fold.specs.declared.entry.Mark.{Mark}
@@ -19,7 +19,7 @@ use Rattle.stream_fold.specs.Copying.{bindings, mark_by, last_mark, mark_in}
 use Rattle.stream_fold.specs.Publishing.{is_value, sent_by, latest_sent, in_window}
 use Rattle.stream_fold.specs.Held.{State, StandsFor, latest_in, number_in, id_of}
 use Rattle.stream_fold.specs.Facts.{sends}
-use Rattle.push_consumer.specs.Chains.{Sendings, IsRight, SkipsHoles, with_rows}
+use Rattle.push_consumer.specs.Chains.{Sendings, IsRight, with_rows}
 use Rattle.push_consumer.specs.Progress.{ConsumerState, Progress, is_spent, asks, latest_token, delivered as more_delivered, after_row}
 use Rattle.push_consumer.specs.Pumps.{pumped, pump_rows, pump_packets, rows_sent, packets_sent, packets_of, flow_request}
 use Rattle.push_consumer.specs.Sends.{to_send}

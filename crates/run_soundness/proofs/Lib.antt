@@ -10,3 +10,4 @@ pub mod ShardsSent
 pub mod ShardsRows
 pub mod ShardsKept
 pub mod ShardsSteps
+pub mod ShardsGrow

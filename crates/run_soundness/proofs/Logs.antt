@@ -1,14 +1,13 @@
 -- What a log says after one record more.
-use Rattle.std.proofs.Common.{◌≡◌, ◌≢◌, ℕ, zero, suc, ◌<◌, ◌≤◌, Bool, true, false, cond, List, [], ◌∷◌, ◌++◌, length, Option, Some, None, refl, sym, ap, ◌∙◌, subst, arith, ◌⊎◌, inl, inr, append_assoc, append-nil, length-append}
+use Rattle.std.proofs.Common.{◌≡◌, ◌≢◌, ℕ, zero, suc, ◌<◌, Bool, true, false, cond, List, [], ◌∷◌, ◌++◌, length, Option, Some, None, refl, sym, ap, ◌∙◌, subst, arith, ◌⊎◌, inl, inr, append_assoc, append-nil, length-append}
 use Rattle.std.specs.Prelude.{⊤, slice_get}
 use Rattle.std.specs.Str.{bytes_eq}
 use Rattle.std.specs.Cmp.Lexicographic.{bytes_decides}
 use Rattle.stream_fold.specs.declared.config.Config.{Config}
 use Rattle.stream_fold.specs.declared.entry.Entry.{Entry}
-use Rattle.stream_fold.specs.Histories.{History, with_entry}
 use Rattle.record_codec.specs.declared.records.Rec.{Rec}
 use Rattle.record_codec.specs.declared.records.Rec.TheVariants.{Boot, Create, Remove, Of}
-use Rattle.shard_machine.specs.Logs.{Made, Named, unnamed, boot_after, boot, with_change, to_last, recorded, named_after, named, incarnation, by_incarnation, made, live}
+use Rattle.shard_machine.specs.Logs.{Made, Named, unnamed, boot_after, boot, with_change, to_last, recorded, named, incarnation, by_incarnation, made, live}
 use Rattle.shard_machine.proofs.LogSteps.{boot-snoc, named_after-snoc}
 use Rattle.run_soundness.proofs.Histories.{GoesOn, GoesOn-refl, GoesOn-entry, GoesOn-trans}
 

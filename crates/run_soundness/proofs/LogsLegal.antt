@@ -1,6 +1,5 @@
 -- What holds of each stream of a legal log, and which record keeps it.
-use Rattle.std.proofs.Common.{◌≡◌, ℕ, zero, suc, ◌<◌, ◌^◌, max, false, List, [], ◌∷◌, ◌++◌, Option, Some, None, refl, sym, ap, ◌∙◌, subst, arith, ◌⊎◌, inl, inr, append_assoc, append-nil}
-use Rattle.std.specs.Prelude.{⊤}
+use Rattle.std.proofs.Common.{◌≡◌, ℕ, zero, suc, ◌<◌, ◌^◌, max, false, List, [], ◌∷◌, ◌++◌, Some, None, refl, sym, ap, ◌∙◌, subst, arith, inl, inr, append_assoc, append-nil}
 use Rattle.stream_fold.specs.declared.config.Config.{Config}
 use Rattle.stream_fold.specs.declared.entry.Entry.{Entry}
 use Rattle.stream_fold.specs.declared.entry.Entry.TheVariants.{Put, Del, Purge, Expire, Bind, Limits}
@@ -10,8 +9,8 @@ use Rattle.stream_fold.specs.Checking.{config_fault, is_mirror}
 use Rattle.stream_fold.specs.Fits.{Fits, FitAfter, AllFit, KeepsMembers}
 use Rattle.stream_fold.proofs.Folds.{last-push, stands-push}
 use Rattle.record_codec.specs.declared.records.Rec.{Rec}
-use Rattle.record_codec.specs.declared.records.Rec.TheVariants.{Boot, Create, Remove, Of}
-use Rattle.shard_machine.specs.Logs.{Made, unnamed, named_after, with_change, incarnation, made, live}
+use Rattle.record_codec.specs.declared.records.Rec.TheVariants.{Create, Of}
+use Rattle.shard_machine.specs.Logs.{Made, named_after, with_change, incarnation, made, live}
 use Rattle.shard_machine.specs.Legal.{MayFollow, IsLegal}
 use Rattle.shard_machine.proofs.LogSteps.{all_follow-snoc}
 use Rattle.run_soundness.proofs.Laws.{Laws}

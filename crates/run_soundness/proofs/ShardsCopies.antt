@@ -1,6 +1,6 @@
 -- The copies of a shard, and the entries that they decide on.
-use Rattle.std.proofs.Common.{◌≡◌, ℕ, zero, suc, ◌+◌, ◌-◌, ◌<◌, ◌≤◌, ◌^◌, max, Bool, true, false, cond, ◌||◌, leb, ltb, eqb, List, [], ◌∷◌, ◌++◌, length, Option, Some, None, refl, sym, ap, ◌∙◌, subst, arith, ◌⊎◌, inl, inr}
-use Rattle.std.specs.Prelude.{⊤, slice_get, Contains, flat_map}
+use Rattle.std.proofs.Common.{◌≡◌, ℕ, zero, suc, ◌+◌, ◌-◌, ◌<◌, ◌≤◌, ◌^◌, max, Bool, true, false, cond, ◌||◌, leb, eqb, List, [], ◌∷◌, length, Option, Some, None, refl, sym, ap, ◌∙◌, subst, arith, inl, inr}
+use Rattle.std.specs.Prelude.{slice_get, Contains}
 use Rattle.std.specs.List.{find}
 use Rattle.std.specs.FinMap.{get}
 use Rattle.std.specs.Str.{bytes_eq}
@@ -14,11 +14,11 @@ use Rattle.js_wire.specs.declared.packet.Packet.TheVariants.{Ask, Answer as Answ
 use Rattle.stream_fold.specs.declared.config.Copies.{Copies}
 use Rattle.stream_fold.specs.declared.config.Copies.TheVariants.{Nothing, Mirror, Sources}
 use Rattle.stream_fold.specs.declared.decision.Decision.{Decision}
-use Rattle.stream_fold.specs.declared.decision.Decision.TheVariants.{Store, Bind as Binds, Rebind, Skip, Ignore, AskAgain, Reply, Heard as Hears, Refused as IsRefused, Stop}
-use Rattle.stream_fold.specs.declared.decision.Reason.TheVariants.{Foreign, Back, Large, SeqEnd}
+use Rattle.stream_fold.specs.declared.decision.Decision.TheVariants.{Store, Rebind, Ignore, Stop}
+use Rattle.stream_fold.specs.declared.decision.Reason.TheVariants.{Back, Large, SeqEnd}
 use Rattle.stream_fold.specs.declared.entry.BoundTo.{BoundTo}
 use Rattle.stream_fold.specs.declared.entry.Entry.{Entry}
-use Rattle.stream_fold.specs.declared.entry.Entry.TheVariants.{Put, Bind as BindEntry}
+use Rattle.stream_fold.specs.declared.entry.Entry.TheVariants.{Put}
 use Rattle.stream_fold.specs.Checking.{is_mirror}
 use Rattle.stream_fold.specs.Copying.{Follows}
 use Rattle.stream_fold.specs.Facts.{StreamFacts, FitsFacts, front_by_facts}
@@ -27,14 +27,14 @@ use Rattle.stream_fold.specs.Publishing.{content_size, capped}
 use Rattle.stream_fold.specs.Sourcing.{via}
 use Rattle.mirror_core.specs.Decisions.{mirror_decision, other_decision, of_mirrored, on_mirrored, of_answer, of_beat, on_answer, on_beat, is_back, is_large}
 use Rattle.mirror_core.specs.Entries.{IfEntry}
-use Rattle.source_core.specs.Decisions.{Reached, source_decision, of_sourced, on_sourced, on_made, at_time}
+use Rattle.source_core.specs.Decisions.{source_decision, of_sourced, on_sourced, on_made, at_time}
 use Rattle.replica_ask.specs.declared.phase.Order.{Order}
 use Rattle.replica_ask.specs.declared.phase.Order.TheVariants.{Next, Old as OldOrder, Foreign as ForeignOrder, Gap as GapOrder, Beat as BeatOrder, FlowAsk as FlowOrder, Answer as AnswerOrder, Refuse as RefuseOrder}
 use Rattle.replica_ask.specs.Orders.{order}
 use Rattle.shard_machine.specs.Legal.{HasFaultless}
 use Rattle.shard_machine.specs.Images.{LogImage, NameFacts, live_in, live_names}
 use Rattle.shard_machine.specs.Views.{View, Copy, origins_of, copies_from, copies_of, copies_under, all_copies, reached_by, reached, asker_of}
-use Rattle.shard_machine.specs.Answers.{addressee, copy_of_asker, decided_by}
+use Rattle.shard_machine.specs.Answers.{copy_of_asker, decided_by}
 use Rattle.run_soundness.proofs.Lists.{cons-cases, Contains-none, flat-back, found}
 
 -- ---- copies
@@ -51,12 +51,12 @@ one-of : (name : List ℕ) (f : StreamFacts) (from : ℕ) (origins : List Origin
 one-of name f from [] c q = absurd (Contains-none c q)
 one-of name f from (origin ∷ origins) c q = elim (cons-cases (record { stream = name; index = from; facts = f; want = origin }) (copies_from name f (from + 1) origins) c q) [
   | inl e ↦ record {
-      stream = ap (λ (x : Copy). x.stream) (sym e);
-      facts = ap (λ (x : Copy). x.facts) (sym e);
-      place = 0;
-      index = ap (λ (x : Copy). x.index) (sym e) ∙ (let z : from ≡ from + 0 = omega arith in z);
-      origin = ap (λ (x : Copy). Some x.want) e;
-    }
+    stream = ap (λ (x : Copy). x.stream) (sym e);
+    facts = ap (λ (x : Copy). x.facts) (sym e);
+    place = 0;
+    index = ap (λ (x : Copy). x.index) (sym e) ∙ (let z : from ≡ from + 0 = omega arith in z);
+    origin = ap (λ (x : Copy). Some x.want) e;
+  }
   | inr more ↦ (let w = one-of name f (from + 1) origins c more in
       record { stream = w.stream; facts = w.facts; place = suc w.place; index = w.index ∙ (let z : from + 1 + w.place ≡ from + suc w.place = omega arith in z); origin = w.origin })
 ]

@@ -1,32 +1,29 @@
 -- What each shard keeps by itself, whatever it is called with, and that each answer keeps it.
-use Rattle.std.proofs.Common.{◌≡◌, ◌≢◌, ℕ, suc, ◌+◌, ◌<◌, ◌≤◌, ◌^◌, Bool, true, false, ◌&&◌, leb, List, [], ◌∷◌, ◌++◌, Option, Some, None, refl, sym, ap, ◌∙◌, subst, arith, ◌⊎◌, inl, inr, append-nil}
+use Rattle.std.proofs.Common.{◌≡◌, ◌≢◌, ℕ, ◌+◌, ◌≤◌, ◌^◌, true, false, leb, List, [], ◌∷◌, ◌++◌, Option, Some, None, refl, sym, ap, ◌∙◌, subst, arith, ◌⊎◌, inl, inr, append-nil}
 use Rattle.std.specs.Prelude.{map, Contains, Ok}
 use Rattle.std.proofs.lemmas.Bool.{and_parts}
 use Rattle.std.proofs.lemmas.List.Elements.{Contains-append_left, Contains-append_right, Contains-append_cases}
 use Rattle.nats_text.specs.declared.message.Stamp.{Stamp}
 use Rattle.js_wire.specs.declared.packet.Packet.{Packet}
-use Rattle.stream_fold.specs.declared.entry.Numbered.{Numbered}
 use Rattle.record_codec.specs.declared.records.Rec.{Rec}
-use Rattle.push_consumer.specs.Chains.{Sendings, IsRight, no_sendings, with_rows}
+use Rattle.push_consumer.specs.Chains.{IsRight, no_sendings, with_rows}
 use Rattle.push_consumer.specs.Progress.{ConsumerState}
 use Rattle.replica_ask.specs.Orders.{same_stamp}
 use Rattle.shard_machine.specs.declared.call.ShardCall.{ShardCall}
-use Rattle.shard_machine.specs.declared.reply.ShardReply.{ShardReply}
 use Rattle.shard_machine.specs.Logs.{Made, boot, incarnation, made, live}
 use Rattle.shard_machine.specs.Images.{LogImage, no_image, image, image_after, incarnation_in}
-use Rattle.shard_machine.specs.Views.{View, Effect}
+use Rattle.shard_machine.specs.Views.{Effect}
 use Rattle.shard_machine.specs.Answers.{Answers, next_name}
-use Rattle.shard_machine.specs.Steps.{Held, view_in, HaveRoom, has_room, has_number, needed, after_effect}
+use Rattle.shard_machine.specs.Steps.{Held, view_in, HaveRoom, has_number, needed, after_effect}
 use Rattle.shard_machine.proofs.Images.{image_after-append, images-tell}
 use Rattle.run_soundness.specs.Shards.{Consumer, ShardState, Distinct, IsGiven, IsRead, ReadsRight, delivered, standing_of, answered_now, sent_now, just_made, ever_after}
-use Rattle.run_soundness.proofs.Histories.{GoesOn-refl}
 use Rattle.run_soundness.proofs.Laws.{Laws}
-use Rattle.run_soundness.proofs.Lists.{cons-cases, Contains-none, Contains-one, Contains-head, Contains-tail, map-back, map-on, none-found}
+use Rattle.run_soundness.proofs.Lists.{Contains-none, Contains-one, Contains-head, map-back, map-on, none-found}
 use Rattle.run_soundness.proofs.Stamps.{Apart, same_stamp-refl, standing-is, standing-of, Distinct-one, Distinct-map, Distinct-push, given-on}
-use Rattle.run_soundness.proofs.Logs.{StreamGrows, StreamGrows-refl, Stands, Stands-push, Leaves, NoBoot, boot-other, hist-stays, hist-append, live-is, live-from}
+use Rattle.run_soundness.proofs.Logs.{Stands, Stands-push, Leaves, NoBoot, boot-other, hist-append, live-is, live-from}
 use Rattle.run_soundness.proofs.LogsLegal.{LogOk, LogOk-push, MayStand, log-rise}
 use Rattle.run_soundness.proofs.Chains.{right-on}
-use Rattle.run_soundness.proofs.ShardsRows.{Before, Row, Adds, Evolves, Grew, IsNew, option_list, row-of}
+use Rattle.run_soundness.proofs.ShardsRows.{Before, Row, Grew, option_list, row-of}
 
 -- ---- the invariant
 
@@ -117,19 +114,19 @@ before s ok loaded = record {
       omega arith;
 }
 
-number-of : (h : Held) (records : List Rec) (r : Rec) → HaveRoom h records → records ≡ r ∷ [] → has_number h.image r ≡ true
+pub number-of : (h : Held) (records : List Rec) (r : Rec) → HaveRoom h records → records ≡ r ∷ [] → has_number h.image r ≡ true
 number-of h [] r room e = absurd (cc)
 number-of h (x ∷ xs) r room e = (let same : x ≡ r = cc in subst (λ y. has_number h.image y ≡ true) same (and_parts (leb (h.end + needed x) (2 ^ 40)) (has_number h.image x) room.0).1)
 
 -- ---- an answer
 
 -- the consumer that was just made
-ghost_of : LogImage → ConsumerState → Consumer
+pub ghost_of : LogImage → ConsumerState → Consumer
 ghost_of i c = record { name = c.name; stream = c.stream; incarnation = incarnation_in i c.stream; wanted = c.wanted; sent = no_sendings }
 
 -- a consumer behind an answer: it was made before, or just now
-record CameFrom (old : List Consumer) (consumers : List ConsumerState) (packets : List Packet) (i : LogImage) (made_now : Option ConsumerState) (d : Consumer) : Type 0 where
-  from : ((k : Consumer) × Contains old k × (sent_now consumers packets k ≡ d)) ⊎ ((c : ConsumerState) × (made_now ≡ Some c) × (ghost_of i c ≡ d))
+pub record CameFrom (old : List Consumer) (consumers : List ConsumerState) (packets : List Packet) (i : LogImage) (made_now : Option ConsumerState) (d : Consumer) : Type 0 where
+  pub from : ((k : Consumer) × Contains old k × (sent_now consumers packets k ≡ d)) ⊎ ((c : ConsumerState) × (made_now ≡ Some c) × (ghost_of i c ≡ d))
 
 made-case : (i : LogImage) (o : Option ConsumerState) (d : Consumer) → Contains (just_made i o) d → (c : ConsumerState) × (o ≡ Some c) × (ghost_of i c ≡ d)
 unfolding ghost_of
@@ -141,22 +138,19 @@ unfolding ghost_of
 given-new i b given more c e k le = record { boot = omega arith; count = λ x. omega arith }
 
 module _ (laws : Laws) (mid new : ShardState) (call : ShardCall) (does : Effect) (ok : ShardOk mid) (loaded : mid.held.loaded ≡ true) (a : AnswersOn mid call does new) where
-  row : Row mid.log (view_in mid.held) does
+  pub row : Row mid.log (view_in mid.held) does
   row = row-of laws mid.log (view_in mid.held) (before mid ok loaded) call does (λ r e. number-of mid.held does.records r a.room e) a.answers
 
-  next_log : List Rec
+  abbrev pub next_log : List Rec
   next_log = mid.log ++ option_list row.adds.one
 
   log-is : new.log ≡ next_log
-  unfolding next_log
   log-is = a.log ∙ ap (λ (l : List Rec). mid.log ++ l) row.adds.are
 
   next-ok : LogOk next_log
-  unfolding next_log
   next-ok = logs-with mid.log row.adds.one ok.logs row.adds.may
 
   held-image : new.held.image ≡ image next_log
-  unfolding next_log
   held-image =
       ap (λ (h : Held). h.image) a.becomes
       ∙ (image-with mid.held.image mid.log does.records ok.image_is
@@ -165,24 +159,23 @@ module _ (laws : Laws) (mid new : ShardState) (call : ShardCall) (does : Effect)
   consumers-are : new.held.consumers ≡ does.consumers
   consumers-are = ap (λ (h : Held). h.consumers) a.becomes
 
-  made_now : Option ConsumerState
+  abbrev pub made_now : Option ConsumerState
   made_now = row.evolves.made
 
   ever-is : new.ever ≡ map (sent_now does.consumers does.reply.packets) mid.ever ++ just_made new.held.image made_now
-  unfolding made_now
   ever-is =
       a.ever
       ∙ (ap (λ (l : List Consumer). map (sent_now new.held.consumers does.reply.packets) mid.ever ++ l) (row.evolves.made_is new.held consumers-are row.evolves.apart)
       ∙ ap (λ (cs : List ConsumerState). map (sent_now cs does.reply.packets) mid.ever ++ just_made new.held.image row.evolves.made) consumers-are)
 
-  came-from : (d : Consumer) → Contains new.ever d → CameFrom mid.ever does.consumers does.reply.packets new.held.image made_now d
+  pub came-from : (d : Consumer) → Contains new.ever d → CameFrom mid.ever does.consumers does.reply.packets new.held.image made_now d
   came-from d q = elim (Contains-append_cases (map (sent_now does.consumers does.reply.packets) mid.ever) (just_made new.held.image made_now) d (subst (λ (l : List Consumer). Contains l d) ever-is q)) [
     | inl old ↦ (let w = map-back (sent_now does.consumers does.reply.packets) mid.ever d old in record { from = inl (w.of, w.here, w.is) })
     | inr own ↦ record { from = inr (made-case new.held.image made_now d own) }
   ]
 
   -- a consumer that was made before is there as it is now
-  still-there : (k : Consumer) → Contains mid.ever k → Contains new.ever (sent_now does.consumers does.reply.packets k)
+  pub still-there : (k : Consumer) → Contains mid.ever k → Contains new.ever (sent_now does.consumers does.reply.packets k)
   still-there k q = subst (λ (l : List Consumer). Contains l (sent_now does.consumers does.reply.packets k)) (sym ever-is)
       (Contains-append_left (map (sent_now does.consumers does.reply.packets) mid.ever) (just_made new.held.image made_now) (sent_now does.consumers does.reply.packets k)
       (map-on (sent_now does.consumers does.reply.packets) mid.ever k q))
@@ -194,17 +187,16 @@ module _ (laws : Laws) (mid new : ShardState) (call : ShardCall) (does : Effect)
       (subst (λ (o : Option ConsumerState). Contains (just_made new.held.image o) (ghost_of new.held.image c)) (sym e) (Contains-head (ghost_of new.held.image c) [])))
 
   boot-is : boot next_log ≡ boot mid.log
-  unfolding next_log
   boot-is = boot-with mid.log row.adds.one row.adds.no_boot
 
   -- the name of a consumer that was just made
   new-name : (c : ConsumerState) → made_now ≡ Some c → (c.name.boot ≡ boot mid.log) × (c.name.count ≡ mid.held.given + 1) × (mid.held.given + 1 ≤ does.given)
-  unfolding made_now
   new-name c e =
-      let n = row.evolves.new c e in
-      (ap (λ (x : ConsumerState). x.name.boot) n.is ∙ (ap (λ (i : LogImage). i.boot) ok.image_is ∙ (images-tell mid.log).boot),
-      ap (λ (x : ConsumerState). x.name.count) n.is,
-      n.given)
+      let n = row.evolves.new c e in (
+        ap (λ (x : ConsumerState). x.name.boot) n.is ∙ (ap (λ (i : LogImage). i.boot) ok.image_is ∙ (images-tell mid.log).boot),
+        ap (λ (x : ConsumerState). x.name.count) n.is,
+        n.given,
+      )
 
   fresh-name : (k : Consumer) (c : ConsumerState) → Contains mid.ever k → made_now ≡ Some c → k.name ≢ c.name
   fresh-name k c q e same =
@@ -235,7 +227,6 @@ module _ (laws : Laws) (mid new : ShardState) (call : ShardCall) (does : Effect)
 
   -- a consumer that stood before
   standing-grew : (c d : ConsumerState) → Contains mid.held.consumers c → Contains does.consumers d → Grew mid.log does.reply.packets c d → IsStanding next_log new.ever d
-  unfolding next_log
   standing-grew c d q here g =
       let st = ok.standing c q in
       let k = st.made_as in
@@ -261,7 +252,7 @@ module _ (laws : Laws) (mid new : ShardState) (call : ShardCall) (does : Effect)
 
   -- a consumer that was just made
   standing-made : (d : ConsumerState) → made_now ≡ Some d → IsStanding next_log new.ever d
-  unfolding next_log ghost_of made_now
+  unfolding ghost_of
   standing-made d e =
       let n = row.evolves.new d e in
       let li = live-is mid.log d.stream n.known n.reads_it in
@@ -282,7 +273,7 @@ module _ (laws : Laws) (mid new : ShardState) (call : ShardCall) (does : Effect)
         right = right-on laws n.known.history on.0.history d no_sendings on.2.history (log-rise laws next_log d.stream (incarnation mid.log d.stream) on.0 next-ok on.1) fresh;
       }
 
-  standing-on : (d : ConsumerState) → Contains does.consumers d → IsStanding next_log new.ever d
+  pub standing-on : (d : ConsumerState) → Contains does.consumers d → IsStanding next_log new.ever d
   standing-on d q = elim (row.evolves.back d q) [
     | inl w ↦ standing-grew w.0 d w.1 q w.2
     | inr made ↦ standing-made d made
@@ -290,7 +281,7 @@ module _ (laws : Laws) (mid new : ShardState) (call : ShardCall) (does : Effect)
 
   -- one that stands has sent what is right, one that doesn't has sent nothing more
   chain-by : (d : Consumer) (o : Option ConsumerState) → Contains new.ever d → standing_of does.consumers d.name ≡ o → ReadsRight next_log d
-  unfolding next_log
+  unfolding ghost_of
   chain-by d (Some c) q e =
       let w = standing-is does.consumers d.name c e in
       let st = standing-on c w.0 in

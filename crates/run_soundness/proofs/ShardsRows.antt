@@ -1,11 +1,11 @@
 -- What each row of the table does to the log and to the consumers of a shard.
-use Rattle.std.proofs.Common.{◌≡◌, ◌≢◌, ℕ, zero, suc, ◌+◌, ◌-◌, ◌<◌, ◌≤◌, ◌^◌, max, Bool, true, false, cond, not, ◌&&◌, eqb, leb, ltb, List, [], ◌∷◌, ◌++◌, length, Option, Some, None, IsSome, refl, sym, ap, ◌∙◌, subst, arith, ◌⊎◌, inl, inr}
-use Rattle.std.specs.Prelude.{⊤, filter, map, flat_map, count_by, option_map, Contains, Result, Ok, Err, codes}
+use Rattle.std.proofs.Common.{◌≡◌, ◌≢◌, ℕ, ◌+◌, ◌-◌, ◌<◌, ◌≤◌, ◌^◌, max, Bool, true, false, cond, not, ◌&&◌, eqb, leb, ltb, List, [], ◌∷◌, length, Option, Some, None, IsSome, refl, sym, ap, ◌∙◌, subst, arith, ◌⊎◌, inl, inr}
+use Rattle.std.specs.Prelude.{filter, map, flat_map, count_by, option_map, Contains, Result, Ok, Err, codes}
 use Rattle.std.specs.List.{find}
 use Rattle.std.specs.Str.{bytes_eq}
 use Rattle.std.specs.Cmp.Lexicographic.{bytes_decides}
 use Rattle.std.proofs.lemmas.Bool.{eqb-false, ltb-true}
-use Rattle.std.proofs.lemmas.List.Elements.{Contains-append_left, Contains-append_right, Contains-append_cases}
+use Rattle.std.proofs.lemmas.List.Elements.{Contains-append_right, Contains-append_cases}
 use Rattle.nats_text.specs.Headers.{first_value}
 use Rattle.nats_text.specs.declared.message.Message.{Message}
 use Rattle.nats_text.specs.declared.message.Stamp.{Stamp}
@@ -18,22 +18,22 @@ use Rattle.stream_fold.specs.declared.decision.Decision.{Decision}
 use Rattle.stream_fold.specs.declared.decision.Reason.TheVariants.{Foreign}
 use Rattle.stream_fold.specs.declared.decision.Decision.TheVariants.{Store, Bind as Binds, Rebind, Skip, Ignore, AskAgain, Reply, Heard as Hears, Refused as IsRefused, Stop}
 use Rattle.stream_fold.specs.declared.entry.Entry.{Entry}
-use Rattle.stream_fold.specs.declared.entry.Entry.TheVariants.{Put, Del, Purge, Expire, Bind, Limits}
+use Rattle.stream_fold.specs.declared.entry.Entry.TheVariants.{Put, Del, Purge, Expire, Limits}
 use Rattle.stream_fold.specs.declared.entry.Numbered.{Numbered}
 use Rattle.stream_fold.specs.declared.verdict.Refusal.{Refusal}
+use Rattle.stream_fold.specs.declared.verdict.Refusal.TheVariants.{WrongLast, WrongSubjectLast, TooLarge, SeqEnd}
 use Rattle.stream_fold.specs.declared.verdict.Verdict.{Verdict}
 use Rattle.stream_fold.specs.declared.verdict.Verdict.TheVariants.{Fresh, Duplicate as IsDuplicate}
 use Rattle.stream_fold.specs.Checking.{config_fault, is_mirror}
 use Rattle.stream_fold.specs.Copying.{Follows}
-use Rattle.stream_fold.specs.Facts.{StreamFacts, facts, FitsFacts, verdict_by_facts, repeat_by_facts}
-use Rattle.stream_fold.specs.Fits.{KeepsMembers}
+use Rattle.stream_fold.specs.Facts.{StreamFacts, facts, verdict_by_facts, repeat_by_facts}
 use Rattle.stream_fold.specs.Histories.{History, kept, last, message_at, is_purged, is_expired, NumbersRise}
-use Rattle.stream_fold.specs.Publishing.{later_refusal, earlier_refusal, repeat_or, fresh_or, verdict_behind}
+use Rattle.stream_fold.specs.Publishing.{is_other_number, number_or_0, last_of, content_size, capped, rows_with, is_full, full, later_refusal, earlier_refusal, repeat_or, fresh_or, verdict_behind}
 use Rattle.stream_fold.proofs.FactLemmas.{facts-tell}
 use Rattle.mirror_core.specs.Entries.{IfEntry}
 use Rattle.source_core.specs.Decisions.{at_time}
 use Rattle.record_codec.specs.declared.records.Rec.{Rec}
-use Rattle.record_codec.specs.declared.records.Rec.TheVariants.{Boot, Create, Remove, Of}
+use Rattle.record_codec.specs.declared.records.Rec.TheVariants.{Create, Remove, Of}
 use Rattle.push_consumer.specs.declared.wanted.Wanted.{Wanted}
 use Rattle.push_consumer.specs.Chains.{Sendings, IsRight, with_rows}
 use Rattle.push_consumer.specs.Laws.{answered_to}
@@ -48,19 +48,18 @@ use Rattle.shard_machine.specs.declared.reply.Outcome.{Outcome}
 use Rattle.shard_machine.specs.declared.reply.Outcome.TheVariants as outcome
 use Rattle.shard_machine.specs.declared.reply.ShardRefusal.{ShardRefusal}
 use Rattle.shard_machine.specs.declared.reply.ShardRefusal.TheVariants as refusal
-use Rattle.shard_machine.specs.declared.reply.ShardReply.{ShardReply}
 use Rattle.shard_machine.specs.Logs.{Made, boot, incarnation, live}
-use Rattle.shard_machine.specs.Legal.{MayFollow, MayChange, HasFaultless}
-use Rattle.shard_machine.specs.Images.{LogImage, NameFacts, image, live_in, incarnation_in, live_names, known_of, MayFollowImage, MayMakeIn, MayChangeIn}
+use Rattle.shard_machine.specs.Legal.{MayFollow}
+use Rattle.shard_machine.specs.Images.{LogImage, NameFacts, image, live_in, incarnation_in, live_names, known_of, MayFollowImage}
 use Rattle.shard_machine.specs.Views.{View, Effect, Askers, Copy, copies_under, asks_of, reads, writes, sends, asker_of, idle_askers}
-use Rattle.shard_machine.specs.Answers.{Answered, Answers, CreatesAgain, Creates, creates, creates_new, Updates, removes, reads_stream, publishes, publishes_by, takes_subject, transformed, deletes, purges, expires, below_or_all, gets, row_by, informs, serves, next_name, makes, makes_asked, makes_for, makes_consumer, is_earlier, consumer_start, for_stream, consumers_of, pumps, takes_token, takes_at, takes_reply, paused_for, reaches, copies_of_node, ticks, beats_of, due_copies, addressee, copy_of_asker, decided_by, hears, follows, hears_with, with_record}
+use Rattle.shard_machine.specs.Answers.{Answered, Answers, Creates, creates, Updates, removes, reads_stream, publishes, publishes_by, takes_subject, transformed, deletes, purges, expires, below_or_all, gets, row_by, informs, serves, next_name, makes, makes_asked, makes_for, makes_consumer, is_earlier, consumer_start, for_stream, consumers_of, pumps, takes_token, takes_at, takes_reply, paused_for, reaches, copies_of_node, ticks, beats_of, due_copies, addressee, copy_of_asker, decided_by, hears, follows, with_record}
 use Rattle.shard_machine.specs.Steps.{Held, has_number}
 use Rattle.shard_machine.proofs.Images.{images-tell}
 use Rattle.shard_machine.proofs.Legality.{tell-legal}
 use Rattle.run_soundness.specs.Shards.{delivered, standing_of, answered_now, just_made, made_by}
 use Rattle.run_soundness.proofs.Laws.{Laws}
 use Rattle.run_soundness.proofs.Lists.{Contains-one, Contains-head, map-back, map-on, filter-was, filter-pass}
-use Rattle.run_soundness.proofs.Stamps.{Apart, Apart-filter, Apart-push, Apart-map, standing-of, same_stamp-is}
+use Rattle.run_soundness.proofs.Stamps.{Apart, Apart-filter, Apart-push, Apart-map, standing-of}
 use Rattle.run_soundness.proofs.Logs.{NoBoot, Leaves, same_bytes}
 use Rattle.run_soundness.proofs.LogsLegal.{LogOk, MayStand, live-ok, fit-bound, fit-keeps}
 use Rattle.run_soundness.proofs.Chains.{right-pump, answered-is, pump-own, pump-else, delivered-none, delivered-one}
@@ -268,16 +267,27 @@ evolves-pumps laws log v name m rows budget now b l same =
       made_is = λ h e a. refl;
       new = λ d e. no_made (IsNew log v (sends v packets (for_stream name (pumped rows budget now) v.consumers) v.askers)) d e;
       back = λ d here. let w = map-back f v.consumers d here in
-          inl (w.of, w.here, subst (Grew log packets w.of) (ap (λ r. pumped_if (reads_stream name w.of) r budget now w.of) (sym same) ∙ w.is)
-          (grew-pumps laws log packets name m w.of budget now (reads_stream name w.of) refl l
-          (delivered-one (reads_stream name) g w.of.name (λ d f. pump-else w.of.name d rows budget f) v.consumers w.of b.apart w.here refl
-          ∙ ap (λ r. cond (reads_stream name w.of) r []) (pump-own w.of rows budget ∙ ap (λ r. pump_rows r budget w.of) same))));
+          inl (
+            w.of,
+            w.here,
+            subst (Grew log packets w.of) (ap (λ r. pumped_if (reads_stream name w.of) r budget now w.of) (sym same) ∙ w.is)
+                (grew-pumps laws log packets name m w.of budget now (reads_stream name w.of) refl l
+                (delivered-one (reads_stream name) g w.of.name (λ d f. pump-else w.of.name d rows budget f) v.consumers w.of b.apart w.here refl
+                ∙ ap (λ r. cond (reads_stream name w.of) r []) (pump-own w.of rows budget ∙ ap (λ r. pump_rows r budget w.of) same))),
+          );
       apart = Apart-map f (λ c. pumped-name (reads_stream name c) rows budget now c) v.consumers b.apart;
       none = λ n h. delivered-none (reads_stream name) g n (λ d f. pump-else n d rows budget f) v.consumers
           (λ c q e. h (f c) (map-on f v.consumers c q) (pumped-name (reads_stream name c) rows budget now c ∙ e));
     }
 
 -- ---- records
+
+-- a call is answered, or refused
+abbrev fine : Effect → Answered
+fine does = Ok does
+
+abbrev turned : ShardRefusal → Answered
+turned why = Err why
 
 -- a message that is kept goes
 if_kept : View → List ℕ → NameFacts → ℕ → Option Message → Answered
@@ -354,7 +364,7 @@ module _ (laws : Laws) (log : List Rec) (v : View) (b : Before log v) where
   adds-remove does name known are same here = record {
     one = Some (Remove name);
     are = are;
-    may = λ r e. (let is : Remove name ≡ r = cc in subst (MayStand log) is (record { follows = may-by-image (Remove name) (booted-image, subst IsSome (sym here) tt); number = λ name2 e2 m is2 l no. absurd (cc) }));
+    may = λ r e. (let is : Remove name ≡ r = cc in subst (MayStand log) is (record { follows = may-by-image (Remove name) (booted-image, subst IsSome (sym here) refl); number = λ name2 e2 m is2 l no. absurd (cc) }));
     no_boot = λ r e. (let is : Remove name ≡ r = cc in subst NoBoot is tt);
     leaves = λ r e c q. (let is : Remove name ≡ r = cc in subst (λ x. Leaves x c.stream) is
         (not_reads name c (filter-pass (λ x. not (reads_stream name x)) v.consumers c (subst (λ (l : List ConsumerState). Contains l c) same q))));
@@ -362,7 +372,7 @@ module _ (laws : Laws) (log : List Rec) (v : View) (b : Before log v) where
 
   -- ---- row by row
 
-  same_Ok : (x y : Effect) → Ok {Effect} {ShardRefusal} x ≡ Ok y → x ≡ y
+  same_Ok : (x y : Effect) → fine x ≡ fine y → x ≡ y
   same_Ok x y e = cc
 
   -- a call that reads
@@ -378,7 +388,7 @@ module _ (laws : Laws) (log : List Rec) (v : View) (b : Before log v) where
 
   -- an entry that takes something, or none
   row-takes : (does : Effect) (name : List ℕ) (known : NameFacts) (e : Entry) (count : ℕ) (o : Outcome) (t : Bool) → ((h : Held) → made_by o h ≡ []) → live_in v.image name ≡ Some known → EntryOk known.stream e →
-      Ok does ≡ cond t (Ok {Effect} {ShardRefusal} (reads v o)) (Ok (writes v name known.stream e o)) → Row log v does
+      fine does ≡ cond t (fine (reads v o)) (fine (writes v name known.stream e o)) → Row log v does
   row-takes does name known e count o true makes here ok q = subst (Row log v) (sym (same_Ok does (reads v o) q)) (row-reads o makes)
   row-takes does name known e count o false makes here ok q = subst (Row log v) (sym (same_Ok does (writes v name known.stream e o) q)) (row-writes name known e o makes here ok)
 
@@ -389,7 +399,7 @@ module _ (laws : Laws) (log : List Rec) (v : View) (b : Before log v) where
   }
 
   new_by : (does : Effect) (c : Config) (now : ℕ) (t : Bool) → ((r : Rec) → does.records ≡ r ∷ [] → has_number v.image r ≡ true) → config_fault c ≡ None → live_in v.image c.name ≡ None →
-      Ok does ≡ cond t (Err {Effect} refusal.TooManyStreams) (Ok (creates v c now)) → Row log v does
+      fine does ≡ cond t (turned refusal.TooManyStreams) (fine (creates v c now)) → Row log v does
   new_by does c now true number fault free q = absurd (cc)
   new_by does c now false number fault free q =
       let same = same_Ok does (creates v c now) q in
@@ -412,7 +422,7 @@ module _ (laws : Laws) (log : List Rec) (v : View) (b : Before log v) where
     | inr changes ↦ (let z = changes.1 in absurd (cc))
   ]
 
-  remove_by : (does : Effect) (name : List ℕ) (o : Option NameFacts) → live_in v.image name ≡ o → Ok does ≡ removes v name o → Row log v does
+  remove_by : (does : Effect) (name : List ℕ) (o : Option NameFacts) → live_in v.image name ≡ o → fine does ≡ removes v name o → Row log v does
   remove_by does name None f a = absurd (cc)
   remove_by does name (Some known) f a =
       let p : ConsumerState → Bool = λ c. not (reads_stream name c) in
@@ -436,17 +446,27 @@ module _ (laws : Laws) (log : List Rec) (v : View) (b : Before log v) where
   verdict-end None n r e = repeat-end n r e
   verdict-end (Some w) n r e = absurd (cc)
 
-  passes : {A : Type 0} (t : Bool) (x : A) (o : Option A) → cond t (Some x) o ≡ None → (t ≡ false) × (o ≡ None)
-  passes true x o e = absurd (cc)
-  passes false x o e = (refl, e)
+  -- the fourth of four tests, where none is met
+  fourth : (a b c d : Bool) (w x y z : Refusal) (o : Option Refusal) → cond a (Some w) (cond b (Some x) (cond c (Some y) (cond d (Some z) o))) ≡ None → d ≡ false
+  fourth true b c d w x y z o e = absurd (cc)
+  fourth false true c d w x y z o e = absurd (cc)
+  fourth false false true d w x y z o e = absurd (cc)
+  fourth false false false true w x y z o e = absurd (cc)
+  fourth false false false false w x y z o e = refl
 
   -- a publish that is new doesn't stand at the end of all numbers
   fresh-last : (f : StreamFacts) (m : Message) (now : ℕ) → verdict_by_facts f m now ≡ Ok Fresh → eqb f.last (2 ^ 63 - 1) ≡ false
   fresh-last f m now e =
-      let later = verdict-end (earlier_refusal f.config m) (repeat_by_facts f (first_value (codes "Nats-Msg-Id") m.headers) now) (later_refusal f.config m f.rows f.last) e in
-      (passes _ _ _ (passes _ _ _ (passes _ _ _ (passes _ _ _ later).1).1).1).0
+      fourth
+      (is_other_number f.last (first_value (codes "Nats-Expected-Last-Sequence") m.headers))
+      (is_other_number (number_or_0 (last_of m.subject f.rows)) (first_value (codes "Nats-Expected-Last-Subject-Sequence") m.headers))
+      (not (eqb f.config.max_msg_size 0) && ltb f.config.max_msg_size (content_size m))
+      (eqb f.last (2 ^ 63 - 1))
+      (WrongLast f.last) (WrongSubjectLast (number_or_0 (last_of m.subject f.rows))) (TooLarge (capped (content_size m)) f.config.max_msg_size) SeqEnd
+      (cond (is_full f.config (rows_with f.config m f.rows f.last)) (Some (full (rows_with f.config m f.rows f.last))) None)
+      (verdict-end (earlier_refusal f.config m) (repeat_by_facts f (first_value (codes "Nats-Msg-Id") m.headers) now) (later_refusal f.config m f.rows f.last) e)
 
-  publish_by : (does : Effect) (name : List ℕ) (known : NameFacts) (m : Message) (now : ℕ) (r : Result Verdict Refusal) → live_in v.image name ≡ Some known → verdict_by_facts known.stream m now ≡ r → Ok does ≡ publishes_by v name known.stream m now r → Row log v does
+  publish_by : (does : Effect) (name : List ℕ) (known : NameFacts) (m : Message) (now : ℕ) (r : Result Verdict Refusal) → live_in v.image name ≡ Some known → verdict_by_facts known.stream m now ≡ r → fine does ≡ publishes_by v name known.stream m now r → Row log v does
   publish_by does name known m now (Ok Fresh) here e a =
       let k = live-known name known here in
       let f_is : facts k.0.history ≡ known.stream = ap (λ (x : NameFacts). x.stream) k.2 in
@@ -460,49 +480,49 @@ module _ (laws : Laws) (log : List Rec) (v : View) (b : Before log v) where
   publish_by does name known m now (Err why) here e a = absurd (cc)
 
   subject_by : (does : Effect) (name : List ℕ) (known : NameFacts) (m : Message) (now : ℕ) (t : Bool) → live_in v.image name ≡ Some known →
-      Ok does ≡ cond t (publishes_by v name known.stream (transformed known.stream.config m) now (verdict_by_facts known.stream (transformed known.stream.config m) now)) (Err refusal.NoStream) → Row log v does
+      fine does ≡ cond t (publishes_by v name known.stream (transformed known.stream.config m) now (verdict_by_facts known.stream (transformed known.stream.config m) now)) (Err refusal.NoStream) → Row log v does
   subject_by does name known m now true here a = publish_by does name known (transformed known.stream.config m) now (verdict_by_facts known.stream (transformed known.stream.config m) now) here refl a
   subject_by does name known m now false here a = absurd (cc)
 
-  publishes_row : (does : Effect) (name : List ℕ) (m : Message) (now : ℕ) (o : Option NameFacts) → live_in v.image name ≡ o → Ok does ≡ publishes v name m now o → Row log v does
+  publishes_row : (does : Effect) (name : List ℕ) (m : Message) (now : ℕ) (o : Option NameFacts) → live_in v.image name ≡ o → fine does ≡ publishes v name m now o → Row log v does
   publishes_row does name m now None here a = absurd (cc)
   publishes_row does name m now (Some known) here a = subject_by does name known m now (takes_subject known.stream.config m.subject) here a
 
-  delete_by : (does : Effect) (name : List ℕ) (known : NameFacts) (seq : ℕ) (o : Option Message) → live_in v.image name ≡ Some known → message_at seq known.stream.rows ≡ o → Ok does ≡ if_kept v name known seq o → Row log v does
+  delete_by : (does : Effect) (name : List ℕ) (known : NameFacts) (seq : ℕ) (o : Option Message) → live_in v.image name ≡ Some known → message_at seq known.stream.rows ≡ o → fine does ≡ if_kept v name known seq o → Row log v does
   unfolding if_kept
   delete_by does name known seq None here e a = absurd (cc)
   delete_by does name known seq (Some m) here e a = subst (Row log v) (sym (same_Ok does _ a))
-      (row-writes name known (Del seq) outcome.Deleted (λ h. refl) here (record { fits = subst IsSome (sym e) tt; faultless = tt; number = λ no. tt }))
+      (row-writes name known (Del seq) outcome.Deleted (λ h. refl) here (record { fits = subst IsSome (sym e) refl; faultless = tt; number = λ no. tt }))
 
-  deletes_row : (does : Effect) (name : List ℕ) (seq : ℕ) (o : Option NameFacts) → live_in v.image name ≡ o → Ok does ≡ deletes v name seq o → Row log v does
+  deletes_row : (does : Effect) (name : List ℕ) (seq : ℕ) (o : Option NameFacts) → live_in v.image name ≡ o → fine does ≡ deletes v name seq o → Row log v does
   unfolding if_kept
   deletes_row does name seq None here a = absurd (cc)
   deletes_row does name seq (Some known) here a = delete_by does name known seq (message_at seq known.stream.rows) here refl a
 
-  purges_row : (does : Effect) (name pattern : List ℕ) (below : Option ℕ) (o : Option NameFacts) → live_in v.image name ≡ o → Ok does ≡ purges v name pattern below o → Row log v does
+  purges_row : (does : Effect) (name pattern : List ℕ) (below : Option ℕ) (o : Option NameFacts) → live_in v.image name ≡ o → fine does ≡ purges v name pattern below o → Row log v does
   purges_row does name pattern below None here a = absurd (cc)
   purges_row does name pattern below (Some known) here a =
       let end : ℕ = below_or_all below known.stream.last in
       let count : ℕ = count_by (is_purged pattern end) known.stream.rows in
       row-takes does name known (Purge pattern end) count (outcome.Purged count) (eqb count 0) (λ h. refl) here (record { fits = tt; faultless = tt; number = λ no. tt }) a
 
-  expires_row : (does : Effect) (name : List ℕ) (now : ℕ) (o : Option NameFacts) → live_in v.image name ≡ o → Ok does ≡ expires v name now o → Row log v does
+  expires_row : (does : Effect) (name : List ℕ) (now : ℕ) (o : Option NameFacts) → live_in v.image name ≡ o → fine does ≡ expires v name now o → Row log v does
   expires_row does name now None here a = absurd (cc)
   expires_row does name now (Some known) here a =
       let count : ℕ = count_by (is_expired known.stream.config.max_age now) known.stream.rows in
       row-takes does name known (Expire now) count (outcome.Expired count) (eqb count 0) (λ h. refl) here (record { fits = tt; faultless = tt; number = λ no. tt }) a
 
-  get_by : (does : Effect) (o : Option Numbered) → Ok does ≡ if_found v o → Row log v does
+  get_by : (does : Effect) (o : Option Numbered) → fine does ≡ if_found v o → Row log v does
   unfolding if_found
   get_by does None a = absurd (cc)
   get_by does (Some row) a = subst (Row log v) (sym (same_Ok does (reads v (outcome.Found row)) a)) (row-reads (outcome.Found row) (λ h. refl))
 
-  gets_row : (does : Effect) (which : Which) (o : Option NameFacts) → Ok does ≡ gets v which o → Row log v does
+  gets_row : (does : Effect) (which : Which) (o : Option NameFacts) → fine does ≡ gets v which o → Row log v does
   unfolding if_found
   gets_row does which None a = absurd (cc)
   gets_row does which (Some known) a = get_by does (row_by known.stream.rows which) a
 
-  informs_row : (does : Effect) (name : List ℕ) (o : Option NameFacts) → Ok does ≡ informs v name o → Row log v does
+  informs_row : (does : Effect) (name : List ℕ) (o : Option NameFacts) → fine does ≡ informs v name o → Row log v does
   informs_row does name None a = absurd (cc)
   informs_row does name (Some known) a = subst (Row log v) (sym (same_Ok does _ a)) (row-reads _ (λ h. refl))
 
@@ -516,24 +536,24 @@ module _ (laws : Laws) (log : List Rec) (v : View) (b : Before log v) where
       let k = live-known name known here in
       record { adds = adds-none (makes_consumer v now known name what) refl; evolves = evolves-made log v now known name what k.0 b k.1 }
 
-  make_by : (does : Effect) (now : ℕ) (known : NameFacts) (name : List ℕ) (what : Wanted) (t : Bool) (why : ShardRefusal) → live_in v.image name ≡ Some known → Ok does ≡ cond t (Ok (makes_consumer v now known name what)) (Err why) → Row log v does
+  make_by : (does : Effect) (now : ℕ) (known : NameFacts) (name : List ℕ) (what : Wanted) (t : Bool) (why : ShardRefusal) → live_in v.image name ≡ Some known → fine does ≡ cond t (Ok (makes_consumer v now known name what)) (Err why) → Row log v does
   make_by does now known name what true why here a = subst (Row log v) (sym (same_Ok does _ a)) (row-makes now known name what here)
   make_by does now known name what false why here a = absurd (cc)
 
-  make_unless : (does : Effect) (now : ℕ) (known : NameFacts) (name : List ℕ) (what : Wanted) (t : Bool) (why : ShardRefusal) → live_in v.image name ≡ Some known → Ok does ≡ cond t (Err why) (Ok (makes_consumer v now known name what)) → Row log v does
+  make_unless : (does : Effect) (now : ℕ) (known : NameFacts) (name : List ℕ) (what : Wanted) (t : Bool) (why : ShardRefusal) → live_in v.image name ≡ Some known → fine does ≡ cond t (Err why) (Ok (makes_consumer v now known name what)) → Row log v does
   make_unless does now known name what true why here a = absurd (cc)
   make_unless does now known name what false why here a = subst (Row log v) (sym (same_Ok does _ a)) (row-makes now known name what here)
 
-  make_for : (does : Effect) (now : ℕ) (known : NameFacts) (name : List ℕ) (what : Wanted) (present : Option ConsumerState) → live_in v.image name ≡ Some known → Ok does ≡ makes_for v now known name what present → Row log v does
+  make_for : (does : Effect) (now : ℕ) (known : NameFacts) (name : List ℕ) (what : Wanted) (present : Option ConsumerState) → live_in v.image name ≡ Some known → fine does ≡ makes_for v now known name what present → Row log v does
   make_for does now known name what None here a = make_unless does now known name what (leb 1024 (count_by (reads_stream name) v.consumers)) refusal.TooManyConsumers here a
   make_for does now known name what (Some present) here a = make_by does now known name what (is_earlier present.wanted.attempt what.attempt) (refusal.OldAttempt present.wanted.attempt what.attempt) here a
 
-  make_asked : (does : Effect) (now : ℕ) (name : List ℕ) (asker : AskerId) (attempt : Stamp) (origin : List ℕ) (start : Start) (filters : List (List ℕ)) (o : Option NameFacts) → live_in v.image name ≡ o → Ok does ≡ makes_asked v now name asker attempt origin start filters o → Row log v does
+  make_asked : (does : Effect) (now : ℕ) (name : List ℕ) (asker : AskerId) (attempt : Stamp) (origin : List ℕ) (start : Start) (filters : List (List ℕ)) (o : Option NameFacts) → live_in v.image name ≡ o → fine does ≡ makes_asked v now name asker attempt origin start filters o → Row log v does
   make_asked does now name asker attempt origin start filters None here a = absurd (cc)
   make_asked does now name asker attempt origin start filters (Some known) here a =
       make_for does now known name (record { asker = asker; attempt = attempt; origin = origin; start = consumer_start known.stream start; filters = filters }) (find (serves name asker) v.consumers) here a
 
-  makes_row : (does : Effect) (now : ℕ) (ask : Packet) → Ok does ≡ makes v now ask → Row log v does
+  makes_row : (does : Effect) (now : ℕ) (ask : Packet) → fine does ≡ makes v now ask → Row log v does
   makes_row does now (Ask asker attempt origin stream start filters) a = make_asked does now stream asker attempt origin start filters (live_in v.image stream) refl a
   makes_row does now (Answer asker attempt consumer incarnation start) a = absurd (cc)
   makes_row does now (Refuse asker attempt code err_code) a = absurd (cc)
@@ -542,7 +562,7 @@ module _ (laws : Laws) (log : List Rec) (v : View) (b : Before log v) where
   makes_row does now (FlowAsk asker attempt origin stream consumer token) a = absurd (cc)
   makes_row does now (FlowReply origin stream consumer token) a = absurd (cc)
 
-  pumps_row : (does : Effect) (name : List ℕ) (budget now : ℕ) (o : Option NameFacts) → live_in v.image name ≡ o → Ok does ≡ pumps v name budget now o → Row log v does
+  pumps_row : (does : Effect) (name : List ℕ) (budget now : ℕ) (o : Option NameFacts) → live_in v.image name ≡ o → fine does ≡ pumps v name budget now o → Row log v does
   pumps_row does name budget now None here a = absurd (cc)
   pumps_row does name budget now (Some known) here a =
       let k = live-known name known here in
@@ -563,7 +583,7 @@ module _ (laws : Laws) (log : List Rec) (v : View) (b : Before log v) where
   token-changes true false token c = (refl, refl, refl, still-right c)
   token-changes false u token c = (refl, refl, refl, still-right c)
 
-  tokens_row : (does : Effect) (stream : List ℕ) (consumer : Stamp) (token : ℕ) (o : Option NameFacts) → Ok does ≡ takes_at v stream consumer token o → Row log v does
+  tokens_row : (does : Effect) (stream : List ℕ) (consumer : Stamp) (token : ℕ) (o : Option NameFacts) → fine does ≡ takes_at v stream consumer token o → Row log v does
   unfolding token_if
   tokens_row does stream consumer token None a = absurd (cc)
   tokens_row does stream consumer token (Some known) a =
@@ -577,7 +597,7 @@ module _ (laws : Laws) (log : List Rec) (v : View) (b : Before log v) where
         right = λ c. (token-changes (reads_stream stream c) (same_stamp c.name consumer) token c).3;
       })))
 
-  replies_row : (does : Effect) (packet : Packet) → Ok does ≡ takes_reply v packet → Row log v does
+  replies_row : (does : Effect) (packet : Packet) → fine does ≡ takes_reply v packet → Row log v does
   replies_row does (Ask asker attempt origin stream start filters) a = absurd (cc)
   replies_row does (Answer asker attempt consumer incarnation start) a = absurd (cc)
   replies_row does (Refuse asker attempt code err_code) a = absurd (cc)

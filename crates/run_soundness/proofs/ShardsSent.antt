@@ -1,6 +1,6 @@
 -- What the packets of a reply deliver in the name of a consumer: only those of a pump deliver anything.
-use Rattle.std.proofs.Common.{◌≡◌, ℕ, Bool, true, false, cond, List, [], ◌∷◌, ◌++◌, Option, Some, None, refl, sym, ap, ◌∙◌}
-use Rattle.std.specs.Prelude.{map, flat_map}
+use Rattle.std.proofs.Common.{◌≡◌, ℕ, Bool, true, false, cond, List, [], ◌∷◌, ◌++◌, Option, Some, None, refl, ap, ◌∙◌}
+use Rattle.std.specs.Prelude.{flat_map}
 use Rattle.nats_text.specs.declared.message.Stamp.{Stamp}
 use Rattle.js_wire.specs.declared.packet.Packet.{Packet}
 use Rattle.js_wire.specs.declared.packet.Packet.TheVariants.{Ask, Answer, Refuse, Delivery, Beat, FlowAsk, FlowReply}
@@ -10,10 +10,10 @@ use Rattle.shard_machine.specs.declared.call.ShardCall.{ShardCall}
 use Rattle.shard_machine.specs.declared.call.ShardCall.TheVariants as call
 use Rattle.shard_machine.specs.declared.reply.ShardRefusal.{ShardRefusal}
 use Rattle.shard_machine.specs.declared.reply.ShardRefusal.TheVariants as refusal
-use Rattle.shard_machine.specs.Views.{View, Copy, asks_of, ask_of}
+use Rattle.shard_machine.specs.Views.{View, Copy, asks_of}
 use Rattle.shard_machine.specs.Answers.{beats_of, consumers_of, flow_answer}
 use Rattle.shard_machine.specs.Steps.{refuse_with, refusal_packets, refused_packets}
-use Rattle.run_soundness.specs.Shards.{delivered_by, delivered}
+use Rattle.run_soundness.specs.Shards.{delivered}
 use Rattle.run_soundness.proofs.Chains.{delivered-append}
 
 module _ (name : Stamp) where

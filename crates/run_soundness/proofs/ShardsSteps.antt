@@ -1,5 +1,5 @@
 -- Each step keeps what each shard keeps: loads, faults and refusals too.
-use Rattle.std.proofs.Common.{◌≡◌, ℕ, suc, ◌+◌, ◌<◌, ◌≤◌, ◌^◌, Bool, true, false, ◌&&◌, leb, ltb, List, [], ◌∷◌, ◌++◌, Option, Some, None, refl, sym, ap, ◌∙◌, subst, arith, ◌⊎◌, inl, inr, append-nil, append_assoc}
+use Rattle.std.proofs.Common.{◌≡◌, ℕ, ◌+◌, ◌<◌, ◌≤◌, ◌^◌, Bool, true, false, leb, List, [], ◌∷◌, ◌++◌, Option, Some, None, refl, sym, ap, ◌∙◌, subst, arith, ◌⊎◌, inl, inr, append-nil, append_assoc}
 use Rattle.std.specs.Prelude.{map, Contains, Ok}
 use Rattle.std.proofs.lemmas.Bool.{and_parts, ltb-true}
 use Rattle.nats_text.specs.declared.message.Stamp.{Stamp}
@@ -16,15 +16,13 @@ use Rattle.shard_machine.specs.declared.reply.Outcome.TheVariants as outcome
 use Rattle.shard_machine.specs.declared.reply.ShardRefusal.{ShardRefusal}
 use Rattle.shard_machine.specs.declared.reply.ShardRefusal.TheVariants as refusal
 use Rattle.shard_machine.specs.declared.reply.ShardReply.{ShardReply}
-use Rattle.shard_machine.specs.Logs.{Made, boot, live}
-use Rattle.shard_machine.specs.Legal.{MayFollow}
-use Rattle.shard_machine.specs.Images.{LogImage, no_image, image, image_after}
+use Rattle.shard_machine.specs.Logs.{boot}
+use Rattle.shard_machine.specs.Images.{LogImage, image, image_after}
 use Rattle.shard_machine.specs.Views.{Effect, idle_askers}
 use Rattle.shard_machine.specs.Answers.{Answers}
-use Rattle.shard_machine.specs.Steps.{Held, view_in, HaveRoom, has_room, needed, has_number, end_after, next_boot, may_open, IsSettled, Loads, IsReady, Succeeds, IsTurnedDown, LacksRoom, LacksRoomToLoad, CannotLoad, Faults, FailsToLoad, StaysOrLoads, Refuses, RefusesWith, StepTo, Step, after_effect, refused_packets}
-use Rattle.shard_machine.proofs.Images.{image_after-append, images-tell}
+use Rattle.shard_machine.specs.Steps.{Held, view_in, HaveRoom, has_room, needed, has_number, end_after, next_boot, may_open, IsSettled, IsReady, Succeeds, IsTurnedDown, LacksRoom, LacksRoomToLoad, Faults, FailsToLoad, StaysOrLoads, Refuses, RefusesWith, StepTo, refused_packets}
+use Rattle.shard_machine.proofs.Images.{images-tell}
 use Rattle.run_soundness.specs.Shards.{Consumer, ShardState, Distinct, IsGiven, ReadsRight, IsNewShard, Moves, LoadsOn, RestsOn, delivered, standing_of, answered_now, sent_now, made_by, ever_after}
-use Rattle.run_soundness.proofs.Histories.{GoesOn-refl}
 use Rattle.run_soundness.proofs.Laws.{Laws}
 use Rattle.run_soundness.proofs.Lists.{Contains-none, Contains-head, Contains-tail}
 use Rattle.run_soundness.proofs.Stamps.{Apart, standing-is, Distinct-one, given-later, given-same}
@@ -32,7 +30,7 @@ use Rattle.run_soundness.proofs.Logs.{boot-push, boot-other}
 use Rattle.run_soundness.proofs.LogsLegal.{LogOk, LogOk-push, LogOk-empty, MayStand}
 use Rattle.run_soundness.proofs.Chains.{answered-is}
 use Rattle.run_soundness.proofs.ShardsRows.{option_list, row-of}
-use Rattle.run_soundness.proofs.ShardsKept.{ShardOk, IsStanding, AnswersOn, ShardOk-answers, ReadsRight-on, logs-with, image-with, before, number-of, row}
+use Rattle.run_soundness.proofs.ShardsKept.{ShardOk, AnswersOn, ShardOk-answers, ReadsRight-on, logs-with, image-with, before, number-of}
 use Rattle.run_soundness.proofs.ShardsSent.{refused-none}
 
 -- ---- the parts of a step
@@ -374,16 +372,20 @@ module _ (old : ShardState) (c : ShardCall) (reply : ShardReply) (new : ShardSta
       Fault (record {
         outcome_is = o;
         packets = p;
-        state = inl (mid, record { records = m.records; is_ready = f.is_ready; log = refl; ever = refl }, record {
-          does = f.does;
-          answers = f.answers;
-          doubtful = f.doubtful;
-          is = f.is;
-          room = f.room;
-          becomes = f.becomes;
-          log = m.log;
-          ever = refused-ever ok refusal.DiskFault o p (inr (ap (λ (h : Held). h.consumers) f.becomes));
-        });
+        state = inl (
+          mid,
+          record { records = m.records; is_ready = f.is_ready; log = refl; ever = refl },
+          record {
+            does = f.does;
+            answers = f.answers;
+            doubtful = f.doubtful;
+            is = f.is;
+            room = f.room;
+            becomes = f.becomes;
+            log = m.log;
+            ever = refused-ever ok refusal.DiskFault o p (inr (ap (λ (h : Held). h.consumers) f.becomes));
+          },
+        );
       })
   faulty ok made o p (inr f) =
       Fault (record {

@@ -7,7 +7,9 @@ pub mod Chains
 pub mod LogsLegal
 pub mod ShardsCopies
 pub mod ShardsSent
+pub mod ShardsPumps
 pub mod ShardsRows
 pub mod ShardsKept
 pub mod ShardsSteps
 pub mod ShardsGrow
+pub mod ShardsSay

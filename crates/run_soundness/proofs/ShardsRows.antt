@@ -1,6 +1,6 @@
 -- What each row of the table does to the log and to the consumers of a shard.
 use Rattle.std.proofs.Common.{◌≡◌, ◌≢◌, ℕ, ◌+◌, ◌-◌, ◌<◌, ◌≤◌, ◌^◌, max, Bool, true, false, cond, not, ◌&&◌, eqb, leb, ltb, List, [], ◌∷◌, length, Option, Some, None, IsSome, refl, sym, ap, ◌∙◌, subst, arith, ◌⊎◌, inl, inr}
-use Rattle.std.specs.Prelude.{filter, map, flat_map, count_by, option_map, Contains, Result, Ok, Err, codes}
+use Rattle.std.specs.Prelude.{⊤, filter, map, flat_map, count_by, option_map, Contains, Result, Ok, Err, codes}
 use Rattle.std.specs.List.{find}
 use Rattle.std.specs.Str.{bytes_eq}
 use Rattle.std.specs.Cmp.Lexicographic.{bytes_decides}
@@ -27,7 +27,7 @@ use Rattle.stream_fold.specs.declared.verdict.Verdict.TheVariants.{Fresh, Duplic
 use Rattle.stream_fold.specs.Checking.{config_fault, is_mirror}
 use Rattle.stream_fold.specs.Copying.{Follows}
 use Rattle.stream_fold.specs.Facts.{StreamFacts, facts, verdict_by_facts, repeat_by_facts}
-use Rattle.stream_fold.specs.Histories.{History, kept, last, message_at, is_purged, is_expired, NumbersRise}
+use Rattle.stream_fold.specs.Histories.{History, put, kept, last, message_at, is_purged, is_expired, NumbersRise}
 use Rattle.stream_fold.specs.Publishing.{is_other_number, number_or_0, last_of, content_size, capped, rows_with, is_full, full, later_refusal, earlier_refusal, repeat_or, fresh_or, verdict_behind}
 use Rattle.stream_fold.proofs.FactLemmas.{facts-tell}
 use Rattle.mirror_core.specs.Entries.{IfEntry}
@@ -37,7 +37,7 @@ use Rattle.record_codec.specs.declared.records.Rec.TheVariants.{Create, Remove, 
 use Rattle.push_consumer.specs.declared.wanted.Wanted.{Wanted}
 use Rattle.push_consumer.specs.Chains.{Sendings, IsRight, with_rows}
 use Rattle.push_consumer.specs.Laws.{answered_to}
-use Rattle.push_consumer.specs.Progress.{ConsumerState, new_consumer, beats, after_beat, is_awaited}
+use Rattle.push_consumer.specs.Progress.{ConsumerState, new_consumer, beats, beat, beat_at, after_beat, is_awaited}
 use Rattle.push_consumer.specs.Pumps.{pumped, pump_packets, pump_rows}
 use Rattle.replica_ask.specs.Orders.{same_stamp}
 use Rattle.replica_ask.specs.declared.phase.Phase.{Phase}
@@ -51,18 +51,19 @@ use Rattle.shard_machine.specs.declared.reply.ShardRefusal.TheVariants as refusa
 use Rattle.shard_machine.specs.Logs.{Made, boot, incarnation, live}
 use Rattle.shard_machine.specs.Legal.{MayFollow}
 use Rattle.shard_machine.specs.Images.{LogImage, NameFacts, image, live_in, incarnation_in, live_names, known_of, MayFollowImage}
-use Rattle.shard_machine.specs.Views.{View, Effect, Askers, Copy, copies_under, asks_of, reads, writes, sends, asker_of, idle_askers}
-use Rattle.shard_machine.specs.Answers.{Answered, Answers, Creates, creates, Updates, removes, reads_stream, publishes, publishes_by, takes_subject, transformed, deletes, purges, expires, below_or_all, gets, row_by, informs, serves, next_name, makes, makes_asked, makes_for, makes_consumer, is_earlier, consumer_start, for_stream, consumers_of, pumps, takes_token, takes_at, takes_reply, paused_for, reaches, copies_of_node, ticks, beats_of, due_copies, addressee, copy_of_asker, decided_by, hears, follows, with_record}
+use Rattle.shard_machine.specs.Views.{View, Effect, Askers, Copy, copies_under, asks_of, ask_of, reads, writes, sends, asker_of, idle_askers}
+use Rattle.shard_machine.specs.Answers.{Answered, Answers, Creates, creates, Updates, removes, reads_stream, publishes, publishes_by, takes_subject, transformed, deletes, purges, expires, below_or_all, gets, row_by, informs, serves, next_name, makes, makes_asked, makes_for, makes_consumer, is_earlier, consumer_start, for_stream, consumers_of, pumps, takes_token, takes_at, takes_reply, paused_for, reaches, copies_of_node, ticks, beats_of, due_copies, addressee, copy_of_asker, decided_by, hears, follows, with_record, flow_answer}
 use Rattle.shard_machine.specs.Steps.{Held, has_number}
 use Rattle.shard_machine.proofs.Images.{images-tell}
 use Rattle.shard_machine.proofs.Legality.{tell-legal}
 use Rattle.run_soundness.specs.Shards.{delivered, standing_of, answered_now, just_made, made_by}
 use Rattle.run_soundness.proofs.Laws.{Laws}
-use Rattle.run_soundness.proofs.Lists.{Contains-one, Contains-head, map-back, map-on, filter-was, filter-pass}
+use Rattle.run_soundness.proofs.Lists.{Contains-none, Contains-one, Contains-head, map-back, map-on, flat-back, filter-was, filter-pass}
 use Rattle.run_soundness.proofs.Stamps.{Apart, Apart-filter, Apart-push, Apart-map, standing-of}
 use Rattle.run_soundness.proofs.Logs.{NoBoot, Leaves, same_bytes}
-use Rattle.run_soundness.proofs.LogsLegal.{LogOk, MayStand, live-ok, fit-bound, fit-keeps}
+use Rattle.run_soundness.proofs.LogsLegal.{LogOk, MadeOk, MayStand, live-ok, made-rise, fit-bound, fit-keeps}
 use Rattle.run_soundness.proofs.Chains.{right-pump, answered-is, pump-own, pump-else, delivered-none, delivered-one}
+use Rattle.run_soundness.proofs.ShardsPumps.{IsSentBy, Said, pump-said, pump-put}
 use Rattle.run_soundness.proofs.ShardsCopies.{EntryOk, IsCopyOf, heard-copy, decided-ok}
 use Rattle.run_soundness.proofs.ShardsSent.{asks-none, beats-none, flow-none, append-none, flat-none}
 
@@ -108,6 +109,45 @@ pub record IsNew (log : List Rec) (v : View) (does : Effect) (d : ConsumerState)
   pub known : Made
   pub reads_it : live log d.stream ≡ Some known
 
+-- the consumer that was made is the one that an answer tells
+pub record IsAnswered (log : List Rec) (made : Option ConsumerState) (asker : AskerId) (attempt consumer : Stamp) (number start : ℕ) : Type 0 where
+  pub it : ConsumerState
+  pub made_it : made ≡ Some it
+  pub name : consumer ≡ it.name
+  pub asker_is : asker ≡ it.wanted.asker
+  pub attempt_is : attempt ≡ it.wanted.attempt
+  pub number_is : number ≡ incarnation log it.stream
+  pub start_is : start ≡ it.wanted.start
+
+-- a delivery is one of a consumer that stood, of a row that it sends now, which was put
+pub record IsDelivered (log : List Rec) (v : View) (packets : List Packet) (asker : AskerId) (attempt : Stamp) (stream : List ℕ) (consumer : Stamp) (number seq : ℕ) (message : Message) : Type 0 where
+  pub it : ConsumerState
+  pub stood : Contains v.consumers it
+  pub sent : IsSentBy it it.progress.count (delivered it.name packets) asker attempt stream consumer number seq message
+  pub origin : Made
+  pub reads_it : live log it.stream ≡ Some origin
+  pub was_put : put seq origin.history.entries ≡ Some message
+
+-- a beat is one of a consumer that stood
+pub record IsBeat (v : View) (asker : AskerId) (attempt : Stamp) (stream : List ℕ) (consumer : Stamp) (number : ℕ) : Type 0 where
+  pub it : ConsumerState
+  pub stood : Contains v.consumers it
+  pub asker_is : asker ≡ it.wanted.asker
+  pub attempt_is : attempt ≡ it.wanted.attempt
+  pub stream_is : stream ≡ it.stream
+  pub name : consumer ≡ it.name
+  pub number_is : number ≡ it.progress.count
+
+-- what a packet of a reply says of consumers
+abbrev pub Speaks : List Rec → View → List Packet → Option ConsumerState → Packet → Type 0
+Speaks log v packets made (Ask asker attempt origin stream start filters) = ⊤
+Speaks log v packets made (Answer asker attempt consumer number start) = IsAnswered log made asker attempt consumer number start
+Speaks log v packets made (Refuse asker attempt code err_code) = ⊤
+Speaks log v packets made (Delivery asker attempt stream consumer number seq pending message) = IsDelivered log v packets asker attempt stream consumer number seq message
+Speaks log v packets made (Beat asker attempt origin stream consumer last_number last_seq stalled) = IsBeat v asker attempt stream consumer last_number
+Speaks log v packets made (FlowAsk asker attempt origin stream consumer token) = ⊤
+Speaks log v packets made (FlowReply origin stream consumer token) = ⊤
+
 -- what becomes of the consumers
 pub record Evolves (log : List Rec) (v : View) (does : Effect) : Type 0 where
   pub given : v.given ≤ does.given
@@ -117,6 +157,7 @@ pub record Evolves (log : List Rec) (v : View) (does : Effect) : Type 0 where
   pub back : (d : ConsumerState) → Contains does.consumers d → ((c : ConsumerState) × Contains v.consumers c × Grew log does.reply.packets c d) ⊎ (made ≡ Some d)
   pub apart : Apart does.consumers
   pub none : (name : Stamp) → ((d : ConsumerState) → Contains does.consumers d → d.name ≢ name) → delivered name does.reply.packets ≡ []
+  pub speaks : (p : Packet) → Contains does.reply.packets p → Speaks log v does.reply.packets made p
 
 pub record Row (log : List Rec) (v : View) (does : Effect) : Type 0 where
   pub adds : Adds log does
@@ -160,14 +201,67 @@ record Changes (f : ConsumerState → ConsumerState) : Type 0 where
   wanted : (c : ConsumerState) → (f c).wanted ≡ c.wanted
   right : (c : ConsumerState) → StaysRight c (f c)
 
+-- a beat, where it is time
+beat_list_of : Option Packet → List Packet
+beat_list_of None = []
+beat_list_of (Some packet) = packet ∷ []
+
 -- an answer that makes no consumer, and delivers nothing
-record IsQuiet (v : View) (does : Effect) : Type 0 where
+record IsQuiet (log : List Rec) (v : View) (does : Effect) : Type 0 where
   given : v.given ≤ does.given
   makes : (h : Held) → made_by does.reply.outcome h ≡ []
   none : (name : Stamp) → delivered name does.reply.packets ≡ []
+  speaks : (p : Packet) → Contains does.reply.packets p → Speaks log v does.reply.packets None p
+
+-- nothing is sent
+quiet-none : (log : List Rec) (v : View) (does : Effect) → v.given ≤ does.given → ((h : Held) → made_by does.reply.outcome h ≡ []) → does.reply.packets ≡ [] → IsQuiet log v does
+quiet-none log v does given makes none = record {
+  given = given;
+  makes = makes;
+  none = λ name. ap (delivered name) none;
+  speaks = λ p q. absurd (Contains-none p (subst (λ (l : List Packet). Contains l p) none q));
+}
+
+-- a flow request is answered
+flow-speaks : (log : List Rec) (v : View) (packets : List Packet) (packet p : Packet) → Contains (flow_answer packet) p → Speaks log v packets None p
+flow-speaks log v packets (Ask asker attempt origin stream start filters) p q = absurd (Contains-none p q)
+flow-speaks log v packets (Answer asker attempt consumer number start) p q = absurd (Contains-none p q)
+flow-speaks log v packets (Refuse asker attempt code err_code) p q = absurd (Contains-none p q)
+flow-speaks log v packets (Delivery asker attempt stream consumer number seq pending message) p q = absurd (Contains-none p q)
+flow-speaks log v packets (Beat asker attempt origin stream consumer last_number last_seq None) p q = absurd (Contains-none p q)
+flow-speaks log v packets (Beat asker attempt origin stream consumer last_number last_seq (Some token)) p q = subst (Speaks log v packets None) (Contains-one (FlowReply origin stream consumer token) p q) tt
+flow-speaks log v packets (FlowAsk asker attempt origin stream consumer token) p q = subst (Speaks log v packets None) (Contains-one (FlowReply origin stream consumer token) p q) tt
+flow-speaks log v packets (FlowReply origin stream consumer token) p q = absurd (Contains-none p q)
+
+-- a beat
+beat-speaks : (log : List Rec) (v : View) (packets : List Packet) (c : ConsumerState) (now : ℕ) (p : Packet) → Contains v.consumers c → Contains (beat_list_of (beat_at now c)) p → Speaks log v packets None p
+unfolding beat_list_of
+beat-speaks log v packets c now p stood q = by (beats now c) q
+  where
+    by : (t : Bool) → Contains (beat_list_of (cond t (Some (beat c)) None)) p → Speaks log v packets None p
+    by true r = subst (Speaks log v packets None) (Contains-one (beat c) p r) (record { it = c; stood = stood; asker_is = refl; attempt_is = refl; stream_is = refl; name = refl; number_is = refl })
+    by false r = absurd (Contains-none p r)
+
+beats-speak : (log : List Rec) (v : View) (packets : List Packet) (now : ℕ) (name : List ℕ) (p : Packet) → Contains (beats_of v now name) p → Speaks log v packets None p
+unfolding beat_list_of
+beats-speak log v packets now name p q =
+    let w = flat-back (λ (c : ConsumerState). beat_list_of (beat_at now c)) (consumers_of name v.consumers) p q in
+    beat-speaks log v packets w.of now p (filter-was (reads_stream name) v.consumers w.of w.here) w.part
+
+asks-speak : (log : List Rec) (v : View) (packets : List Packet) (w : View) (copies : List Copy) (p : Packet) → Contains (asks_of w copies) p → Speaks log v packets None p
+asks-speak log v packets w copies p q = let i = map-back (ask_of w) copies p q in subst (Speaks log v packets None) i.is tt
+
+-- copies ask
+quiet-asks : (log : List Rec) (v : View) (does : Effect) (w : View) (copies : List Copy) → v.given ≤ does.given → ((h : Held) → made_by does.reply.outcome h ≡ []) → does.reply.packets ≡ asks_of w copies → IsQuiet log v does
+quiet-asks log v does w copies given made asks = record {
+  given = given;
+  makes = made;
+  none = λ name. ap (delivered name) asks ∙ asks-none name w copies;
+  speaks = λ p q. (let i = map-back (ask_of w) copies p (subst (λ (l : List Packet). Contains l p) asks q) in subst (Speaks log v does.reply.packets None) i.is tt);
+}
 
 -- each consumer changes so
-evolves-map : (log : List Rec) (v : View) (does : Effect) (f : ConsumerState → ConsumerState) → Apart v.consumers → does.consumers ≡ map f v.consumers → IsQuiet v does → Changes f → Evolves log v does
+evolves-map : (log : List Rec) (v : View) (does : Effect) (f : ConsumerState → ConsumerState) → Apart v.consumers → does.consumers ≡ map f v.consumers → IsQuiet log v does → Changes f → Evolves log v does
 evolves-map log v does f apart are q c = record {
   given = q.given;
   made = None;
@@ -177,10 +271,11 @@ evolves-map log v does f apart are q c = record {
       inl (w.of, w.here, subst (Grew log does.reply.packets w.of) w.is (grew-still log does.reply.packets w.of (f w.of) (q.none w.of.name) (c.name w.of) (c.stream w.of) (c.wanted w.of) (c.right w.of)));
   apart = subst Apart (sym are) (Apart-map f c.name v.consumers apart);
   none = λ name h. q.none name;
+  speaks = q.speaks;
 }
 
 -- some consumers go
-evolves-filter : (log : List Rec) (v : View) (does : Effect) (p : ConsumerState → Bool) → Apart v.consumers → does.consumers ≡ filter p v.consumers → IsQuiet v does → Evolves log v does
+evolves-filter : (log : List Rec) (v : View) (does : Effect) (p : ConsumerState → Bool) → Apart v.consumers → does.consumers ≡ filter p v.consumers → IsQuiet log v does → Evolves log v does
 evolves-filter log v does p apart are q = record {
   given = q.given;
   made = None;
@@ -189,10 +284,11 @@ evolves-filter log v does p apart are q = record {
   back = λ d here. inl (d, filter-was p v.consumers d (subst (λ (l : List ConsumerState). Contains l d) are here), grew-same log does.reply.packets d (q.none d.name));
   apart = subst Apart (sym are) (Apart-filter p v.consumers apart);
   none = λ name h. q.none name;
+  speaks = q.speaks;
 }
 
 -- the consumers stay
-evolves-same : (log : List Rec) (v : View) (does : Effect) → Apart v.consumers → does.consumers ≡ v.consumers → IsQuiet v does → Evolves log v does
+evolves-same : (log : List Rec) (v : View) (does : Effect) → Apart v.consumers → does.consumers ≡ v.consumers → IsQuiet log v does → Evolves log v does
 evolves-same log v does apart are q = record {
   given = q.given;
   made = None;
@@ -201,11 +297,12 @@ evolves-same log v does apart are q = record {
   back = λ d here. inl (d, subst (λ (l : List ConsumerState). Contains l d) are here, grew-same log does.reply.packets d (q.none d.name));
   apart = subst Apart (sym are) apart;
   none = λ name h. q.none name;
+  speaks = q.speaks;
 }
 
 -- a consumer is made, in place of others
-evolves-made : (log : List Rec) (v : View) (now : ℕ) (known : NameFacts) (name : List ℕ) (what : Wanted) (m : Made) → Before log v → live log name ≡ Some m → Evolves log v (makes_consumer v now known name what)
-evolves-made log v now known name what m b l =
+evolves-made : (log : List Rec) (v : View) (now : ℕ) (known : NameFacts) (name : List ℕ) (what : Wanted) (m : Made) → Before log v → live log name ≡ Some m → known.incarnation ≡ incarnation log name → Evolves log v (makes_consumer v now known name what)
+evolves-made log v now known name what m b l inc =
     let d : ConsumerState = new_consumer (next_name v) name what now in
     let p : ConsumerState → Bool = λ c. not (serves name what.asker c) in
     let does : Effect = makes_consumer v now known name what in
@@ -223,6 +320,8 @@ evolves-made log v now known name what m b l =
       ];
       apart = Apart-push (filter p v.consumers) d (Apart-filter p v.consumers b.apart) (λ c q. b.fresh c (filter-was p v.consumers c q));
       none = λ n h. refl;
+      speaks = λ x q. subst (Speaks log v does.reply.packets (Some d)) (Contains-one (Answer what.asker what.attempt (next_name v) known.incarnation what.start) x q)
+          (record { it = d; made_it = refl; name = refl; asker_is = refl; attempt_is = refl; number_is = inc; start_is = refl });
     }
 
 -- ---- a pump
@@ -254,6 +353,24 @@ grew-pumps laws log packets name m c budget now true reads l sent = record {
 }
 grew-pumps laws log packets name m c budget now false reads l sent = grew-same log packets c sent
 
+-- a packet of a pump
+pump-speaks : Laws → (log : List Rec) (v : View) (packets : List Packet) (m : Made) (c : ConsumerState) (budget : ℕ) (p : Packet) → Contains v.consumers c → live log c.stream ≡ Some m → delivered c.name packets ≡ pump_rows (kept m.history) budget c → MadeOk c.stream m →
+    Said c c.progress.count (pump_rows (kept m.history) budget c) p → Speaks log v packets None p
+pump-speaks laws log v packets m c budget (Ask asker attempt origin stream start filters) stood l own ok said = tt
+pump-speaks laws log v packets m c budget (Answer asker attempt consumer number start) stood l own ok said = absurd said
+pump-speaks laws log v packets m c budget (Refuse asker attempt code err_code) stood l own ok said = tt
+pump-speaks laws log v packets m c budget (Delivery asker attempt stream consumer number seq pending message) stood l own ok said = record {
+  it = c;
+  stood = stood;
+  sent = subst (λ (r : List Numbered). IsSentBy c c.progress.count r asker attempt stream consumer number seq message) (sym own) said;
+  origin = m;
+  reads_it = l;
+  was_put = pump-put laws m.history c budget said.place (record { seq = seq; message = message }) (made-rise laws c.stream m ok) said.row;
+}
+pump-speaks laws log v packets m c budget (Beat asker attempt origin stream consumer last_number last_seq stalled) stood l own ok said = absurd said
+pump-speaks laws log v packets m c budget (FlowAsk asker attempt origin stream consumer token) stood l own ok said = tt
+pump-speaks laws log v packets m c budget (FlowReply origin stream consumer token) stood l own ok said = tt
+
 evolves-pumps : Laws → (log : List Rec) (v : View) (name : List ℕ) (m : Made) (rows : List Numbered) (budget now : ℕ) → Before log v → live log name ≡ Some m → rows ≡ kept m.history →
     Evolves log v (sends v (flat_map (pump_packets rows budget) (consumers_of name v.consumers)) (for_stream name (pumped rows budget now) v.consumers) v.askers)
 unfolding pumped_if
@@ -278,6 +395,16 @@ evolves-pumps laws log v name m rows budget now b l same =
       apart = Apart-map f (λ c. pumped-name (reads_stream name c) rows budget now c) v.consumers b.apart;
       none = λ n h. delivered-none (reads_stream name) g n (λ d f. pump-else n d rows budget f) v.consumers
           (λ c q e. h (f c) (map-on f v.consumers c q) (pumped-name (reads_stream name c) rows budget now c ∙ e));
+      speaks = λ p q.
+          (let w = flat-back g (consumers_of name v.consumers) p q in
+          let it = w.of in
+          let stood : Contains v.consumers it = filter-was (reads_stream name) v.consumers it w.here in
+          let reads : reads_stream name it ≡ true = filter-pass (reads_stream name) v.consumers it w.here in
+          let own : delivered it.name packets ≡ pump_rows rows budget it =
+          delivered-one (reads_stream name) g it.name (λ d f. pump-else it.name d rows budget f) v.consumers it b.apart stood refl
+          ∙ (ap (λ t. cond t (delivered it.name (g it)) []) reads ∙ pump-own it rows budget) in
+          pump-speaks laws log v packets m it budget p stood (ap (live log) (same_bytes it.stream name reads) ∙ l) (own ∙ ap (λ r. pump_rows r budget it) same) (subst (λ n. MadeOk n m) (sym (same_bytes it.stream name reads)) (live-ok log name m b.logs l))
+          (subst (λ (r : List Numbered). Said it it.progress.count (pump_rows r budget it) p) same (pump-said it rows budget p w.part)));
     }
 
 -- ---- records
@@ -377,13 +504,13 @@ module _ (laws : Laws) (log : List Rec) (v : View) (b : Before log v) where
 
   -- a call that reads
   row-reads : (o : Outcome) → ((h : Held) → made_by o h ≡ []) → Row log v (reads v o)
-  row-reads o makes = record { adds = adds-none (reads v o) refl; evolves = evolves-same log v (reads v o) b.apart refl (record { given = omega arith; makes = makes; none = λ name. refl }) }
+  row-reads o makes = record { adds = adds-none (reads v o) refl; evolves = evolves-same log v (reads v o) b.apart refl (quiet-none log v (reads v o) (omega arith) makes refl) }
 
   -- a call that writes an entry
   row-writes : (name : List ℕ) (known : NameFacts) (e : Entry) (o : Outcome) → ((h : Held) → made_by o h ≡ []) → live_in v.image name ≡ Some known → EntryOk known.stream e → Row log v (writes v name known.stream e o)
   row-writes name known e o makes here ok = record {
     adds = adds-entry (writes v name known.stream e o) name known e refl here ok;
-    evolves = evolves-same log v (writes v name known.stream e o) b.apart refl (record { given = omega arith; makes = makes; none = λ n. refl });
+    evolves = evolves-same log v (writes v name known.stream e o) b.apart refl (quiet-none log v (writes v name known.stream e o) (omega arith) makes refl);
   }
 
   -- an entry that takes something, or none
@@ -395,7 +522,7 @@ module _ (laws : Laws) (log : List Rec) (v : View) (b : Before log v) where
   row-create : (c : Config) (now : ℕ) → config_fault c ≡ None → live_in v.image c.name ≡ None → has_number v.image (Create now c) ≡ true → Row log v (creates v c now)
   row-create c now fault free number = record {
     adds = adds-create (creates v c now) c now refl refl fault free number;
-    evolves = evolves-same log v (creates v c now) b.apart refl (record { given = omega arith; makes = λ h. refl; none = λ name. asks-none name (with_record v (Create now c)) (copies_under (with_record v (Create now c)).image c.name) });
+    evolves = evolves-same log v (creates v c now) b.apart refl (quiet-asks log v (creates v c now) (with_record v (Create now c)) (copies_under (with_record v (Create now c)).image c.name) (omega arith) (λ h. refl) refl);
   }
 
   new_by : (does : Effect) (c : Config) (now : ℕ) (t : Bool) → ((r : Rec) → does.records ≡ r ∷ [] → has_number v.image r ≡ true) → config_fault c ≡ None → live_in v.image c.name ≡ None →
@@ -429,7 +556,7 @@ module _ (laws : Laws) (log : List Rec) (v : View) (b : Before log v) where
       let same = same_Ok does _ a in
       subst (Row log v) (sym same) (record {
         adds = adds-remove _ name known refl refl f;
-        evolves = evolves-filter log v _ p b.apart refl (record { given = omega arith; makes = λ h. refl; none = λ n. refl });
+        evolves = evolves-filter log v _ p b.apart refl (quiet-none log v _ (omega arith) (λ h. refl) refl);
       })
 
   -- ---- messages
@@ -534,7 +661,7 @@ module _ (laws : Laws) (log : List Rec) (v : View) (b : Before log v) where
   row-makes : (now : ℕ) (known : NameFacts) (name : List ℕ) (what : Wanted) → live_in v.image name ≡ Some known → Row log v (makes_consumer v now known name what)
   row-makes now known name what here =
       let k = live-known name known here in
-      record { adds = adds-none (makes_consumer v now known name what) refl; evolves = evolves-made log v now known name what k.0 b k.1 }
+      record { adds = adds-none (makes_consumer v now known name what) refl; evolves = evolves-made log v now known name what k.0 b k.1 (ap (λ (x : NameFacts). x.incarnation) (sym k.2)) }
 
   make_by : (does : Effect) (now : ℕ) (known : NameFacts) (name : List ℕ) (what : Wanted) (t : Bool) (why : ShardRefusal) → live_in v.image name ≡ Some known → fine does ≡ cond t (Ok (makes_consumer v now known name what)) (Err why) → Row log v does
   make_by does now known name what true why here a = subst (Row log v) (sym (same_Ok does _ a)) (row-makes now known name what here)
@@ -590,7 +717,7 @@ module _ (laws : Laws) (log : List Rec) (v : View) (b : Before log v) where
       let f : ConsumerState → ConsumerState = λ c. token_if (reads_stream stream c) (same_stamp c.name consumer) token c in
       let new : List ConsumerState = for_stream stream (λ c. cond (same_stamp c.name consumer) (takes_token token c) c) v.consumers in
       subst (Row log v) (sym (same_Ok does (sends v [] new v.askers) a)) (row-sends [] new v.askers
-      (evolves-map log v (sends v [] new v.askers) f b.apart refl (record { given = omega arith; makes = λ h. refl; none = λ n. refl }) (record {
+      (evolves-map log v (sends v [] new v.askers) f b.apart refl (quiet-none log v _ (omega arith) (λ h. refl) refl) (record {
         name = λ c. (token-changes (reads_stream stream c) (same_stamp c.name consumer) token c).0;
         stream = λ c. (token-changes (reads_stream stream c) (same_stamp c.name consumer) token c).1;
         wanted = λ c. (token-changes (reads_stream stream c) (same_stamp c.name consumer) token c).2;
@@ -628,11 +755,11 @@ module _ (laws : Laws) (log : List Rec) (v : View) (b : Before log v) where
   reaches_row : (node : List ℕ) (there : Bool) (now : ℕ) → Row log v (reaches v node there now)
   reaches_row node true now = record {
     adds = adds-none (reaches v node true now) refl;
-    evolves = evolves-map log v (reaches v node true now) (paused_for node true) b.apart refl (record { given = omega arith; makes = λ h. refl; none = λ n. asks-none n v (copies_of_node v node) }) (paused-changes node true);
+    evolves = evolves-map log v (reaches v node true now) (paused_for node true) b.apart refl (quiet-asks log v (reaches v node true now) v (copies_of_node v node) (omega arith) (λ h. refl) refl) (paused-changes node true);
   }
   reaches_row node false now = record {
     adds = adds-none (reaches v node false now) refl;
-    evolves = evolves-map log v (reaches v node false now) (paused_for node false) b.apart refl (record { given = omega arith; makes = λ h. refl; none = λ n. refl }) (paused-changes node false);
+    evolves = evolves-map log v (reaches v node false now) (paused_for node false) b.apart refl (quiet-none log v _ (omega arith) (λ h. refl) refl) (paused-changes node false);
   }
 
   beat_if : Bool → ℕ → ConsumerState → ConsumerState
@@ -659,28 +786,32 @@ module _ (laws : Laws) (log : List Rec) (v : View) (b : Before log v) where
       given = omega arith;
       makes = λ h. refl;
       none = λ n. append-none n (flat_map (beats_of v now) (live_names v.image)) (asks_of v (due_copies v now)) (flat-none n (beats_of v now) (beats-none n v now) (live_names v.image)) (asks-none n v (due_copies v now));
+      speaks = λ p q. elim (Contains-append_cases (flat_map (beats_of v now) (live_names v.image)) (asks_of v (due_copies v now)) p q) [
+        | inl beaten ↦ (let w = flat-back (beats_of v now) (live_names v.image) p beaten in beats-speak log v (ticks v now).reply.packets now w.of p w.part)
+        | inr asked ↦ asks-speak log v (ticks v now).reply.packets v (due_copies v now) p asked
+      ];
     }) (beats-changes now);
   }
 
   -- ---- packets for copies
 
-  quiet-row : (does : Effect) → does.records ≡ [] → does.consumers ≡ v.consumers → IsQuiet v does → Row log v does
+  quiet-row : (does : Effect) → does.records ≡ [] → does.consumers ≡ v.consumers → IsQuiet log v does → Row log v does
   quiet-row does none same q = record { adds = adds-none does none; evolves = evolves-same log v does b.apart same q }
 
-  entry-row : (does : Effect) (c : Copy) (e : Entry) → does.records ≡ Of c.stream e ∷ [] → does.consumers ≡ v.consumers → IsQuiet v does → IsCopyOf v.image c → EntryOk c.facts e → Row log v does
+  entry-row : (does : Effect) (c : Copy) (e : Entry) → does.records ≡ Of c.stream e ∷ [] → does.consumers ≡ v.consumers → IsQuiet log v does → IsCopyOf v.image c → EntryOk c.facts e → Row log v does
   entry-row does c e are same q is ok = record { adds = adds-entry does c.stream is.known e are is.here (subst (λ (f : StreamFacts). EntryOk f e) is.facts ok); evolves = evolves-same log v does b.apart same q }
 
   follows_row : (c : Copy) (now : ℕ) (packet : Packet) (phase : Phase) (d : Decision) → IsCopyOf v.image c → IfEntry (EntryOk c.facts) d → Row log v (follows v c now packet phase d)
-  follows_row c now packet phase (Store e) is ok = entry-row (follows v c now packet phase (Store e)) c e refl refl (record { given = omega arith; makes = λ h. refl; none = λ n. refl }) is ok
-  follows_row c now packet phase (Binds e) is ok = entry-row (follows v c now packet phase (Binds e)) c e refl refl (record { given = omega arith; makes = λ h. refl; none = λ n. refl }) is ok
-  follows_row c now packet phase Rebind is ok = quiet-row (follows v c now packet phase Rebind) refl refl (record { given = omega arith; makes = λ h. refl; none = λ n. refl })
-  follows_row c now packet phase Skip is ok = quiet-row (follows v c now packet phase Skip) refl refl (record { given = omega arith; makes = λ h. refl; none = λ n. refl })
+  follows_row c now packet phase (Store e) is ok = entry-row (follows v c now packet phase (Store e)) c e refl refl (quiet-none log v _ (omega arith) (λ h. refl) refl) is ok
+  follows_row c now packet phase (Binds e) is ok = entry-row (follows v c now packet phase (Binds e)) c e refl refl (quiet-none log v _ (omega arith) (λ h. refl) refl) is ok
+  follows_row c now packet phase Rebind is ok = quiet-row (follows v c now packet phase Rebind) refl refl (quiet-none log v _ (omega arith) (λ h. refl) refl)
+  follows_row c now packet phase Skip is ok = quiet-row (follows v c now packet phase Skip) refl refl (quiet-none log v _ (omega arith) (λ h. refl) refl)
   follows_row c now packet phase (Ignore why) is ok = row-reads (outcome.Heard (Ignore why)) (λ h. refl)
-  follows_row c now packet phase (AskAgain why) is ok = quiet-row (follows v c now packet phase (AskAgain why)) refl refl (record { given = omega arith; makes = λ h. refl; none = λ n. refl })
-  follows_row c now packet phase Reply is ok = quiet-row (follows v c now packet phase Reply) refl refl (record { given = omega arith; makes = λ h. refl; none = λ n. flow-none n packet })
-  follows_row c now packet phase Hears is ok = quiet-row (follows v c now packet phase Hears) refl refl (record { given = omega arith; makes = λ h. refl; none = λ n. refl })
+  follows_row c now packet phase (AskAgain why) is ok = quiet-row (follows v c now packet phase (AskAgain why)) refl refl (quiet-asks log v (follows v c now packet phase (AskAgain why)) v (c ∷ []) (omega arith) (λ h. refl) refl)
+  follows_row c now packet phase Reply is ok = quiet-row (follows v c now packet phase Reply) refl refl (record { given = omega arith; makes = λ h. refl; none = λ n. flow-none n packet; speaks = λ p q. flow-speaks log v (flow_answer packet) packet p q })
+  follows_row c now packet phase Hears is ok = quiet-row (follows v c now packet phase Hears) refl refl (quiet-none log v _ (omega arith) (λ h. refl) refl)
   follows_row c now packet phase IsRefused is ok = row-reads (outcome.Heard IsRefused) (λ h. refl)
-  follows_row c now packet phase (Stop kept seen) is ok = quiet-row (follows v c now packet phase (Stop kept seen)) refl refl (record { given = omega arith; makes = λ h. refl; none = λ n. refl })
+  follows_row c now packet phase (Stop kept seen) is ok = quiet-row (follows v c now packet phase (Stop kept seen)) refl refl (quiet-none log v _ (omega arith) (λ h. refl) refl)
 
   hears_row : (now : ℕ) (packet : Packet) (o : Option Copy) → copy_of_asker v (addressee packet) ≡ o → Row log v (hears v now packet o)
   hears_row now packet None e = row-reads (outcome.Heard (Ignore Foreign)) (λ h. refl)
@@ -691,7 +822,7 @@ module _ (laws : Laws) (log : List Rec) (v : View) (b : Before log v) where
   -- ---- the table
 
   quiet-sends : (askers : Askers) → Row log v (sends v [] v.consumers askers)
-  quiet-sends askers = quiet-row (sends v [] v.consumers askers) refl refl (record { given = omega arith; makes = λ h. refl; none = λ n. refl })
+  quiet-sends askers = quiet-row (sends v [] v.consumers askers) refl refl (quiet-none log v _ (omega arith) (λ h. refl) refl)
 
   -- What is answered adds what may stand, and leaves what consumers have sent right.
   pub row-of : (c : ShardCall) (does : Effect) → ((r : Rec) → does.records ≡ r ∷ [] → has_number v.image r ≡ true) → Answers v c (Ok does) → Row log v does

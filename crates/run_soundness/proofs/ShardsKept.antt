@@ -136,7 +136,7 @@ given-new : (i : LogImage) (b given more : ℕ) (c : ConsumerState) → c.name.b
 given-new i b given more c e k le = record { boot = omega arith; count = λ x. omega arith }
 
 module _ (laws : Laws) (mid new : ShardState) (call : ShardCall) (does : Effect) (ok : ShardOk mid) (loaded : mid.held.loaded ≡ true) (a : AnswersOn mid call does new) where
-  pub row : Row mid.log (view_in mid.held) does
+  pub row : Row mid.log (view_in mid.held) call does
   row = row-of laws mid.log (view_in mid.held) (before mid ok loaded) call does (λ r e. number-of mid.held does.records r a.room e) a.answers
 
   abbrev pub next_log : List Rec

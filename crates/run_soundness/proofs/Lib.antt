@@ -12,4 +12,8 @@ pub mod ShardsRows
 pub mod ShardsKept
 pub mod ShardsSteps
 pub mod ShardsGrow
+pub mod Growing
+pub mod Entries
+pub mod Phases
 pub mod ShardsSay
+pub mod ShardsAsked

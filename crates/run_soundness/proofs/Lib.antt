@@ -7,7 +7,13 @@ pub mod Chains
 pub mod LogsLegal
 pub mod ShardsCopies
 pub mod ShardsSent
+pub mod ShardsPumps
 pub mod ShardsRows
 pub mod ShardsKept
 pub mod ShardsSteps
 pub mod ShardsGrow
+pub mod Growing
+pub mod Entries
+pub mod Phases
+pub mod ShardsSay
+pub mod ShardsAsked

@@ -121,7 +121,7 @@ number-of h (x ∷ xs) r room e = (let same : x ≡ r = cc in subst (λ y. has_n
 -- ---- an answer
 
 -- the consumer that was just made
-pub ghost_of : LogImage → ConsumerState → Consumer
+abbrev pub ghost_of : LogImage → ConsumerState → Consumer
 ghost_of i c = record { name = c.name; stream = c.stream; incarnation = incarnation_in i c.stream; wanted = c.wanted; sent = no_sendings }
 
 -- a consumer behind an answer: it was made before, or just now
@@ -129,28 +129,26 @@ pub record CameFrom (old : List Consumer) (consumers : List ConsumerState) (pack
   pub from : ((k : Consumer) × Contains old k × (sent_now consumers packets k ≡ d)) ⊎ ((c : ConsumerState) × (made_now ≡ Some c) × (ghost_of i c ≡ d))
 
 made-case : (i : LogImage) (o : Option ConsumerState) (d : Consumer) → Contains (just_made i o) d → (c : ConsumerState) × (o ≡ Some c) × (ghost_of i c ≡ d)
-unfolding ghost_of
 made-case i None d q = absurd (Contains-none d q)
 made-case i (Some c) d q = (c, refl, Contains-one _ d q)
 
 given-new : (i : LogImage) (b given more : ℕ) (c : ConsumerState) → c.name.boot ≡ b → c.name.count ≡ given + 1 → given + 1 ≤ more → IsGiven b more (ghost_of i c).name
-unfolding ghost_of
 given-new i b given more c e k le = record { boot = omega arith; count = λ x. omega arith }
 
 module _ (laws : Laws) (mid new : ShardState) (call : ShardCall) (does : Effect) (ok : ShardOk mid) (loaded : mid.held.loaded ≡ true) (a : AnswersOn mid call does new) where
-  pub row : Row mid.log (view_in mid.held) does
+  pub row : Row mid.log (view_in mid.held) call does
   row = row-of laws mid.log (view_in mid.held) (before mid ok loaded) call does (λ r e. number-of mid.held does.records r a.room e) a.answers
 
   abbrev pub next_log : List Rec
   next_log = mid.log ++ option_list row.adds.one
 
-  log-is : new.log ≡ next_log
+  pub log-is : new.log ≡ next_log
   log-is = a.log ∙ ap (λ (l : List Rec). mid.log ++ l) row.adds.are
 
-  next-ok : LogOk next_log
+  pub next-ok : LogOk next_log
   next-ok = logs-with mid.log row.adds.one ok.logs row.adds.may
 
-  held-image : new.held.image ≡ image next_log
+  pub held-image : new.held.image ≡ image next_log
   held-image =
       ap (λ (h : Held). h.image) a.becomes
       ∙ (image-with mid.held.image mid.log does.records ok.image_is
@@ -162,7 +160,7 @@ module _ (laws : Laws) (mid new : ShardState) (call : ShardCall) (does : Effect)
   abbrev pub made_now : Option ConsumerState
   made_now = row.evolves.made
 
-  ever-is : new.ever ≡ map (sent_now does.consumers does.reply.packets) mid.ever ++ just_made new.held.image made_now
+  pub ever-is : new.ever ≡ map (sent_now does.consumers does.reply.packets) mid.ever ++ just_made new.held.image made_now
   ever-is =
       a.ever
       ∙ (ap (λ (l : List Consumer). map (sent_now new.held.consumers does.reply.packets) mid.ever ++ l) (row.evolves.made_is new.held consumers-are row.evolves.apart)
@@ -180,17 +178,16 @@ module _ (laws : Laws) (mid new : ShardState) (call : ShardCall) (does : Effect)
       (Contains-append_left (map (sent_now does.consumers does.reply.packets) mid.ever) (just_made new.held.image made_now) (sent_now does.consumers does.reply.packets k)
       (map-on (sent_now does.consumers does.reply.packets) mid.ever k q))
 
-  made-there : (c : ConsumerState) → made_now ≡ Some c → Contains new.ever (ghost_of new.held.image c)
-  unfolding ghost_of
+  pub made-there : (c : ConsumerState) → made_now ≡ Some c → Contains new.ever (ghost_of new.held.image c)
   made-there c e = subst (λ (l : List Consumer). Contains l (ghost_of new.held.image c)) (sym ever-is)
       (Contains-append_right (map (sent_now does.consumers does.reply.packets) mid.ever) (just_made new.held.image made_now) (ghost_of new.held.image c)
       (subst (λ (o : Option ConsumerState). Contains (just_made new.held.image o) (ghost_of new.held.image c)) (sym e) (Contains-head (ghost_of new.held.image c) [])))
 
-  boot-is : boot next_log ≡ boot mid.log
+  pub boot-is : boot next_log ≡ boot mid.log
   boot-is = boot-with mid.log row.adds.one row.adds.no_boot
 
   -- the name of a consumer that was just made
-  new-name : (c : ConsumerState) → made_now ≡ Some c → (c.name.boot ≡ boot mid.log) × (c.name.count ≡ mid.held.given + 1) × (mid.held.given + 1 ≤ does.given)
+  pub new-name : (c : ConsumerState) → made_now ≡ Some c → (c.name.boot ≡ boot mid.log) × (c.name.count ≡ mid.held.given + 1) × (mid.held.given + 1 ≤ does.given)
   new-name c e =
       let n = row.evolves.new c e in (
         ap (λ (x : ConsumerState). x.name.boot) n.is ∙ (ap (λ (i : LogImage). i.boot) ok.image_is ∙ (images-tell mid.log).boot),
@@ -222,7 +219,7 @@ module _ (laws : Laws) (mid new : ShardState) (call : ShardCall) (does : Effect)
   once-with (Some c) e = Distinct-push (map (sent_now does.consumers does.reply.packets) mid.ever) _ (Distinct-map (sent_now does.consumers does.reply.packets) (λ k. refl) mid.ever ok.once)
       (λ k q same. let w = map-back (sent_now does.consumers does.reply.packets) mid.ever k q in fresh-name w.of c w.here e (ap (λ (x : Consumer). x.name) w.is ∙ same))
 
-  once-on : Distinct new.ever
+  pub once-on : Distinct new.ever
   once-on = subst Distinct (sym ever-is) (once-with made_now refl)
 
   -- a consumer that stood before
@@ -252,7 +249,6 @@ module _ (laws : Laws) (mid new : ShardState) (call : ShardCall) (does : Effect)
 
   -- a consumer that was just made
   standing-made : (d : ConsumerState) → made_now ≡ Some d → IsStanding next_log new.ever d
-  unfolding ghost_of
   standing-made d e =
       let n = row.evolves.new d e in
       let li = live-is mid.log d.stream n.known n.reads_it in
@@ -281,7 +277,6 @@ module _ (laws : Laws) (mid new : ShardState) (call : ShardCall) (does : Effect)
 
   -- one that stands has sent what is right, one that doesn't has sent nothing more
   chain-by : (d : Consumer) (o : Option ConsumerState) → Contains new.ever d → standing_of does.consumers d.name ≡ o → ReadsRight next_log d
-  unfolding ghost_of
   chain-by d (Some c) q e =
       let w = standing-is does.consumers d.name c e in
       let st = standing-on c w.0 in

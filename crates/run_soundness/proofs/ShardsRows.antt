@@ -1,6 +1,6 @@
 -- What each row of the table does to the log and to the consumers of a shard.
-use Rattle.std.proofs.Common.{◌≡◌, ◌≢◌, ℕ, ◌+◌, ◌-◌, ◌<◌, ◌≤◌, ◌^◌, max, Bool, true, false, cond, not, ◌&&◌, eqb, leb, ltb, List, [], ◌∷◌, length, Option, Some, None, IsSome, refl, sym, ap, ◌∙◌, subst, arith, ◌⊎◌, inl, inr}
-use Rattle.std.specs.Prelude.{filter, map, flat_map, count_by, option_map, Contains, Result, Ok, Err, codes}
+use Rattle.std.proofs.Common.{◌≡◌, ◌≢◌, ℕ, ◌+◌, ◌-◌, ◌<◌, ◌≤◌, ◌^◌, max, Bool, true, false, cond, not, ◌&&◌, eqb, leb, ltb, List, [], ◌∷◌, length, Option, Some, None, IsSome, append-nil, refl, sym, ap, ◌∙◌, subst, arith, ◌⊎◌, inl, inr}
+use Rattle.std.specs.Prelude.{⊤, filter, map, flat_map, count_by, option_map, Contains, Result, Ok, Err, codes}
 use Rattle.std.specs.List.{find}
 use Rattle.std.specs.Str.{bytes_eq}
 use Rattle.std.specs.Cmp.Lexicographic.{bytes_decides}
@@ -10,6 +10,7 @@ use Rattle.nats_text.specs.Headers.{first_value}
 use Rattle.nats_text.specs.declared.message.Message.{Message}
 use Rattle.nats_text.specs.declared.message.Stamp.{Stamp}
 use Rattle.nats_text.specs.declared.message.Start.{Start}
+use Rattle.nats_text.specs.declared.message.Start.TheVariants.{Seq, Time}
 use Rattle.js_wire.specs.declared.packet.AskerId.{AskerId}
 use Rattle.js_wire.specs.declared.packet.Packet.{Packet}
 use Rattle.js_wire.specs.declared.packet.Packet.TheVariants.{Ask, Answer, Refuse, Delivery, Beat, FlowAsk, FlowReply}
@@ -25,9 +26,11 @@ use Rattle.stream_fold.specs.declared.verdict.Refusal.TheVariants.{WrongLast, Wr
 use Rattle.stream_fold.specs.declared.verdict.Verdict.{Verdict}
 use Rattle.stream_fold.specs.declared.verdict.Verdict.TheVariants.{Fresh, Duplicate as IsDuplicate}
 use Rattle.stream_fold.specs.Checking.{config_fault, is_mirror}
-use Rattle.stream_fold.specs.Copying.{Follows}
+use Rattle.stream_fold.specs.Copying.{Follows, IsRightStart, number_since}
+use Rattle.stream_fold.specs.RowLists.{EachRow}
+use Rattle.stream_fold.proofs.KeptRows.{EachRow-weaker, kept-put, put-positive}
 use Rattle.stream_fold.specs.Facts.{StreamFacts, facts, verdict_by_facts, repeat_by_facts}
-use Rattle.stream_fold.specs.Histories.{History, kept, last, message_at, is_purged, is_expired, NumbersRise}
+use Rattle.stream_fold.specs.Histories.{History, put, kept, last, message_at, is_purged, is_expired, NumbersRise}
 use Rattle.stream_fold.specs.Publishing.{is_other_number, number_or_0, last_of, content_size, capped, rows_with, is_full, full, later_refusal, earlier_refusal, repeat_or, fresh_or, verdict_behind}
 use Rattle.stream_fold.proofs.FactLemmas.{facts-tell}
 use Rattle.mirror_core.specs.Entries.{IfEntry}
@@ -37,7 +40,7 @@ use Rattle.record_codec.specs.declared.records.Rec.TheVariants.{Create, Remove, 
 use Rattle.push_consumer.specs.declared.wanted.Wanted.{Wanted}
 use Rattle.push_consumer.specs.Chains.{Sendings, IsRight, with_rows}
 use Rattle.push_consumer.specs.Laws.{answered_to}
-use Rattle.push_consumer.specs.Progress.{ConsumerState, new_consumer, beats, after_beat, is_awaited}
+use Rattle.push_consumer.specs.Progress.{ConsumerState, new_consumer, beats, beat, beat_at, after_beat, is_awaited}
 use Rattle.push_consumer.specs.Pumps.{pumped, pump_packets, pump_rows}
 use Rattle.replica_ask.specs.Orders.{same_stamp}
 use Rattle.replica_ask.specs.declared.phase.Phase.{Phase}
@@ -51,18 +54,19 @@ use Rattle.shard_machine.specs.declared.reply.ShardRefusal.TheVariants as refusa
 use Rattle.shard_machine.specs.Logs.{Made, boot, incarnation, live}
 use Rattle.shard_machine.specs.Legal.{MayFollow}
 use Rattle.shard_machine.specs.Images.{LogImage, NameFacts, image, live_in, incarnation_in, live_names, known_of, MayFollowImage}
-use Rattle.shard_machine.specs.Views.{View, Effect, Askers, Copy, copies_under, asks_of, reads, writes, sends, asker_of, idle_askers}
-use Rattle.shard_machine.specs.Answers.{Answered, Answers, Creates, creates, Updates, removes, reads_stream, publishes, publishes_by, takes_subject, transformed, deletes, purges, expires, below_or_all, gets, row_by, informs, serves, next_name, makes, makes_asked, makes_for, makes_consumer, is_earlier, consumer_start, for_stream, consumers_of, pumps, takes_token, takes_at, takes_reply, paused_for, reaches, copies_of_node, ticks, beats_of, due_copies, addressee, copy_of_asker, decided_by, hears, follows, with_record}
+use Rattle.shard_machine.specs.Views.{View, Effect, Askers, Copy, copies_under, asks_of, ask_of, reads, writes, sends, asker_of, idle_askers}
+use Rattle.shard_machine.specs.Answers.{Answered, Answers, Creates, creates, Updates, removes, reads_stream, publishes, publishes_by, takes_subject, transformed, deletes, purges, expires, below_or_all, gets, row_by, informs, serves, next_name, makes, makes_asked, makes_for, makes_consumer, is_earlier, consumer_start, for_stream, consumers_of, pumps, takes_token, takes_at, takes_reply, paused_for, reaches, copies_of_node, ticks, beats_of, due_copies, addressee, copy_of_asker, decided_by, hears, follows, with_record, flow_answer}
 use Rattle.shard_machine.specs.Steps.{Held, has_number}
 use Rattle.shard_machine.proofs.Images.{images-tell}
 use Rattle.shard_machine.proofs.Legality.{tell-legal}
 use Rattle.run_soundness.specs.Shards.{delivered, standing_of, answered_now, just_made, made_by}
 use Rattle.run_soundness.proofs.Laws.{Laws}
-use Rattle.run_soundness.proofs.Lists.{Contains-one, Contains-head, map-back, map-on, filter-was, filter-pass}
+use Rattle.run_soundness.proofs.Lists.{Contains-none, Contains-one, Contains-head, map-back, map-on, flat-back, filter-was, filter-pass}
 use Rattle.run_soundness.proofs.Stamps.{Apart, Apart-filter, Apart-push, Apart-map, standing-of}
 use Rattle.run_soundness.proofs.Logs.{NoBoot, Leaves, same_bytes}
-use Rattle.run_soundness.proofs.LogsLegal.{LogOk, MayStand, live-ok, fit-bound, fit-keeps}
+use Rattle.run_soundness.proofs.LogsLegal.{LogOk, MadeOk, MayStand, live-ok, made-rise, fit-bound, fit-keeps}
 use Rattle.run_soundness.proofs.Chains.{right-pump, answered-is, pump-own, pump-else, delivered-none, delivered-one}
+use Rattle.run_soundness.proofs.ShardsPumps.{IsSentBy, Said, pump-said, pump-put}
 use Rattle.run_soundness.proofs.ShardsCopies.{EntryOk, IsCopyOf, heard-copy, decided-ok}
 use Rattle.run_soundness.proofs.ShardsSent.{asks-none, beats-none, flow-none, append-none, flat-none}
 
@@ -108,19 +112,72 @@ pub record IsNew (log : List Rec) (v : View) (does : Effect) (d : ConsumerState)
   pub known : Made
   pub reads_it : live log d.stream ≡ Some known
 
+-- the consumer that was made is the one that an answer tells
+pub record IsAnswered (log : List Rec) (made : Option ConsumerState) (asker : AskerId) (attempt consumer : Stamp) (number start : ℕ) : Type 0 where
+  pub it : ConsumerState
+  pub made_it : made ≡ Some it
+  pub name : consumer ≡ it.name
+  pub asker_is : asker ≡ it.wanted.asker
+  pub attempt_is : attempt ≡ it.wanted.attempt
+  pub number_is : number ≡ incarnation log it.stream
+  pub start_is : start ≡ it.wanted.start
+
+-- a delivery is one of a consumer that stood, of a row that it sends now, which was put
+pub record IsDelivered (log : List Rec) (v : View) (packets : List Packet) (asker : AskerId) (attempt : Stamp) (stream : List ℕ) (consumer : Stamp) (number seq : ℕ) (message : Message) : Type 0 where
+  pub it : ConsumerState
+  pub stood : Contains v.consumers it
+  pub sent : IsSentBy it it.progress.count (delivered it.name packets) asker attempt stream consumer number seq message
+  pub origin : Made
+  pub reads_it : live log it.stream ≡ Some origin
+  pub was_put : put seq origin.history.entries ≡ Some message
+
+-- a beat is one of a consumer that stood
+pub record IsBeat (v : View) (asker : AskerId) (attempt : Stamp) (stream : List ℕ) (consumer : Stamp) (number : ℕ) : Type 0 where
+  pub it : ConsumerState
+  pub stood : Contains v.consumers it
+  pub asker_is : asker ≡ it.wanted.asker
+  pub attempt_is : attempt ≡ it.wanted.attempt
+  pub stream_is : stream ≡ it.stream
+  pub name : consumer ≡ it.name
+  pub number_is : number ≡ it.progress.count
+
+-- what a packet of a reply says of consumers
+abbrev pub Speaks : List Rec → View → List Packet → Option ConsumerState → Packet → Type 0
+Speaks log v packets made (Ask asker attempt origin stream start filters) = ⊤
+Speaks log v packets made (Answer asker attempt consumer number start) = IsAnswered log made asker attempt consumer number start
+Speaks log v packets made (Refuse asker attempt code err_code) = ⊤
+Speaks log v packets made (Delivery asker attempt stream consumer number seq pending message) = IsDelivered log v packets asker attempt stream consumer number seq message
+Speaks log v packets made (Beat asker attempt origin stream consumer last_number last_seq stalled) = IsBeat v asker attempt stream consumer last_number
+Speaks log v packets made (FlowAsk asker attempt origin stream consumer token) = ⊤
+Speaks log v packets made (FlowReply origin stream consumer token) = ⊤
+
+-- a consumer was made for the Ask of the call, and its start is right
+pub record IsMadeFor (log : List Rec) (called : ShardCall) (d : ConsumerState) : Type 0 where
+  pub asker : AskerId
+  pub attempt : Stamp
+  pub origin : List ℕ
+  pub start : Start
+  pub filters : List (List ℕ)
+  pub now : ℕ
+  pub is : called ≡ call.MakeConsumer (Ask asker attempt origin d.stream start filters) now
+  pub wanted : d.wanted ≡ record { asker = asker; attempt = attempt; origin = origin; start = d.wanted.start; filters = filters }
+  pub begins : (m : Made) → live log d.stream ≡ Some m → IsRightStart m.history start d.wanted.start
+
 -- what becomes of the consumers
-pub record Evolves (log : List Rec) (v : View) (does : Effect) : Type 0 where
+pub record Evolves (log : List Rec) (v : View) (called : ShardCall) (does : Effect) : Type 0 where
   pub given : v.given ≤ does.given
   pub made : Option ConsumerState
   pub made_is : (h : Held) → h.consumers ≡ does.consumers → Apart does.consumers → made_by does.reply.outcome h ≡ just_made h.image made
   pub new : (d : ConsumerState) → made ≡ Some d → IsNew log v does d
+  pub asked : (d : ConsumerState) → made ≡ Some d → IsMadeFor log called d
   pub back : (d : ConsumerState) → Contains does.consumers d → ((c : ConsumerState) × Contains v.consumers c × Grew log does.reply.packets c d) ⊎ (made ≡ Some d)
   pub apart : Apart does.consumers
   pub none : (name : Stamp) → ((d : ConsumerState) → Contains does.consumers d → d.name ≢ name) → delivered name does.reply.packets ≡ []
+  pub speaks : (p : Packet) → Contains does.reply.packets p → Speaks log v does.reply.packets made p
 
-pub record Row (log : List Rec) (v : View) (does : Effect) : Type 0 where
+pub record Row (log : List Rec) (v : View) (called : ShardCall) (does : Effect) : Type 0 where
   pub adds : Adds log does
-  pub evolves : Evolves log v does
+  pub evolves : Evolves log v called does
 
 -- ---- consumers
 
@@ -160,52 +217,111 @@ record Changes (f : ConsumerState → ConsumerState) : Type 0 where
   wanted : (c : ConsumerState) → (f c).wanted ≡ c.wanted
   right : (c : ConsumerState) → StaysRight c (f c)
 
+-- a beat, where it is time
+beat_list_of : Option Packet → List Packet
+beat_list_of None = []
+beat_list_of (Some packet) = packet ∷ []
+
 -- an answer that makes no consumer, and delivers nothing
-record IsQuiet (v : View) (does : Effect) : Type 0 where
+record IsQuiet (log : List Rec) (v : View) (does : Effect) : Type 0 where
   given : v.given ≤ does.given
   makes : (h : Held) → made_by does.reply.outcome h ≡ []
   none : (name : Stamp) → delivered name does.reply.packets ≡ []
+  speaks : (p : Packet) → Contains does.reply.packets p → Speaks log v does.reply.packets None p
+
+-- nothing is sent
+quiet-none : (log : List Rec) (v : View) (does : Effect) → v.given ≤ does.given → ((h : Held) → made_by does.reply.outcome h ≡ []) → does.reply.packets ≡ [] → IsQuiet log v does
+quiet-none log v does given makes none = record {
+  given = given;
+  makes = makes;
+  none = λ name. ap (delivered name) none;
+  speaks = λ p q. absurd (Contains-none p (subst (λ (l : List Packet). Contains l p) none q));
+}
+
+-- a flow request is answered
+flow-speaks : (log : List Rec) (v : View) (packets : List Packet) (packet p : Packet) → Contains (flow_answer packet) p → Speaks log v packets None p
+flow-speaks log v packets (Ask asker attempt origin stream start filters) p q = absurd (Contains-none p q)
+flow-speaks log v packets (Answer asker attempt consumer number start) p q = absurd (Contains-none p q)
+flow-speaks log v packets (Refuse asker attempt code err_code) p q = absurd (Contains-none p q)
+flow-speaks log v packets (Delivery asker attempt stream consumer number seq pending message) p q = absurd (Contains-none p q)
+flow-speaks log v packets (Beat asker attempt origin stream consumer last_number last_seq None) p q = absurd (Contains-none p q)
+flow-speaks log v packets (Beat asker attempt origin stream consumer last_number last_seq (Some token)) p q = subst (Speaks log v packets None) (Contains-one (FlowReply origin stream consumer token) p q) tt
+flow-speaks log v packets (FlowAsk asker attempt origin stream consumer token) p q = subst (Speaks log v packets None) (Contains-one (FlowReply origin stream consumer token) p q) tt
+flow-speaks log v packets (FlowReply origin stream consumer token) p q = absurd (Contains-none p q)
+
+-- a beat
+beat-speaks : (log : List Rec) (v : View) (packets : List Packet) (c : ConsumerState) (now : ℕ) (p : Packet) → Contains v.consumers c → Contains (beat_list_of (beat_at now c)) p → Speaks log v packets None p
+unfolding beat_list_of
+beat-speaks log v packets c now p stood q = by (beats now c) q
+  where
+    by : (t : Bool) → Contains (beat_list_of (cond t (Some (beat c)) None)) p → Speaks log v packets None p
+    by true r = subst (Speaks log v packets None) (Contains-one (beat c) p r) (record { it = c; stood = stood; asker_is = refl; attempt_is = refl; stream_is = refl; name = refl; number_is = refl })
+    by false r = absurd (Contains-none p r)
+
+beats-speak : (log : List Rec) (v : View) (packets : List Packet) (now : ℕ) (name : List ℕ) (p : Packet) → Contains (beats_of v now name) p → Speaks log v packets None p
+unfolding beat_list_of
+beats-speak log v packets now name p q =
+    let w = flat-back (λ (c : ConsumerState). beat_list_of (beat_at now c)) (consumers_of name v.consumers) p q in
+    beat-speaks log v packets w.of now p (filter-was (reads_stream name) v.consumers w.of w.here) w.part
+
+asks-speak : (log : List Rec) (v : View) (packets : List Packet) (w : View) (copies : List Copy) (p : Packet) → Contains (asks_of w copies) p → Speaks log v packets None p
+asks-speak log v packets w copies p q = let i = map-back (ask_of w) copies p q in subst (Speaks log v packets None) i.is tt
+
+-- copies ask
+quiet-asks : (log : List Rec) (v : View) (does : Effect) (w : View) (copies : List Copy) → v.given ≤ does.given → ((h : Held) → made_by does.reply.outcome h ≡ []) → does.reply.packets ≡ asks_of w copies → IsQuiet log v does
+quiet-asks log v does w copies given made asks = record {
+  given = given;
+  makes = made;
+  none = λ name. ap (delivered name) asks ∙ asks-none name w copies;
+  speaks = λ p q. (let i = map-back (ask_of w) copies p (subst (λ (l : List Packet). Contains l p) asks q) in subst (Speaks log v does.reply.packets None) i.is tt);
+}
 
 -- each consumer changes so
-evolves-map : (log : List Rec) (v : View) (does : Effect) (f : ConsumerState → ConsumerState) → Apart v.consumers → does.consumers ≡ map f v.consumers → IsQuiet v does → Changes f → Evolves log v does
-evolves-map log v does f apart are q c = record {
+evolves-map : (log : List Rec) (v : View) (called : ShardCall) (does : Effect) (f : ConsumerState → ConsumerState) → Apart v.consumers → does.consumers ≡ map f v.consumers → IsQuiet log v does → Changes f → Evolves log v called does
+evolves-map log v called does f apart are q c = record {
   given = q.given;
   made = None;
   made_is = λ h same a. q.makes h;
   new = λ d e. no_made (IsNew log v does) d e;
+  asked = λ d e. no_made (IsMadeFor log called) d e;
   back = λ d here. let w = map-back f v.consumers d (subst (λ (l : List ConsumerState). Contains l d) are here) in
       inl (w.of, w.here, subst (Grew log does.reply.packets w.of) w.is (grew-still log does.reply.packets w.of (f w.of) (q.none w.of.name) (c.name w.of) (c.stream w.of) (c.wanted w.of) (c.right w.of)));
   apart = subst Apart (sym are) (Apart-map f c.name v.consumers apart);
   none = λ name h. q.none name;
+  speaks = q.speaks;
 }
 
 -- some consumers go
-evolves-filter : (log : List Rec) (v : View) (does : Effect) (p : ConsumerState → Bool) → Apart v.consumers → does.consumers ≡ filter p v.consumers → IsQuiet v does → Evolves log v does
-evolves-filter log v does p apart are q = record {
+evolves-filter : (log : List Rec) (v : View) (called : ShardCall) (does : Effect) (p : ConsumerState → Bool) → Apart v.consumers → does.consumers ≡ filter p v.consumers → IsQuiet log v does → Evolves log v called does
+evolves-filter log v called does p apart are q = record {
   given = q.given;
   made = None;
   made_is = λ h same a. q.makes h;
   new = λ d e. no_made (IsNew log v does) d e;
+  asked = λ d e. no_made (IsMadeFor log called) d e;
   back = λ d here. inl (d, filter-was p v.consumers d (subst (λ (l : List ConsumerState). Contains l d) are here), grew-same log does.reply.packets d (q.none d.name));
   apart = subst Apart (sym are) (Apart-filter p v.consumers apart);
   none = λ name h. q.none name;
+  speaks = q.speaks;
 }
 
 -- the consumers stay
-evolves-same : (log : List Rec) (v : View) (does : Effect) → Apart v.consumers → does.consumers ≡ v.consumers → IsQuiet v does → Evolves log v does
-evolves-same log v does apart are q = record {
+evolves-same : (log : List Rec) (v : View) (called : ShardCall) (does : Effect) → Apart v.consumers → does.consumers ≡ v.consumers → IsQuiet log v does → Evolves log v called does
+evolves-same log v called does apart are q = record {
   given = q.given;
   made = None;
   made_is = λ h same a. q.makes h;
   new = λ d e. no_made (IsNew log v does) d e;
+  asked = λ d e. no_made (IsMadeFor log called) d e;
   back = λ d here. inl (d, subst (λ (l : List ConsumerState). Contains l d) are here, grew-same log does.reply.packets d (q.none d.name));
   apart = subst Apart (sym are) apart;
   none = λ name h. q.none name;
+  speaks = q.speaks;
 }
 
 -- a consumer is made, in place of others
-evolves-made : (log : List Rec) (v : View) (now : ℕ) (known : NameFacts) (name : List ℕ) (what : Wanted) (m : Made) → Before log v → live log name ≡ Some m → Evolves log v (makes_consumer v now known name what)
-evolves-made log v now known name what m b l =
+evolves-made : (log : List Rec) (v : View) (called : ShardCall) (now : ℕ) (known : NameFacts) (name : List ℕ) (what : Wanted) (m : Made) → Before log v → live log name ≡ Some m → known.incarnation ≡ incarnation log name → IsMadeFor log called (new_consumer (next_name v) name what now) → Evolves log v called (makes_consumer v now known name what)
+evolves-made log v called now known name what m b l inc for =
     let d : ConsumerState = new_consumer (next_name v) name what now in
     let p : ConsumerState → Bool = λ c. not (serves name what.asker c) in
     let does : Effect = makes_consumer v now known name what in
@@ -217,12 +333,15 @@ evolves-made log v now known name what m b l =
           ap (just_made h.image) (ap (λ (l : List ConsumerState). standing_of l (next_name v)) same
           ∙ standing-of does.consumers d apart among);
       new = λ x e. (let same : d ≡ x = cc in subst (IsNew log v does) same (record { now = now; is = refl; given = omega arith; here = among; known = m; reads_it = l }));
+      asked = λ x e. (let same : d ≡ x = cc in subst (IsMadeFor log called) same for);
       back = λ x q. elim (Contains-append_cases (filter p v.consumers) (d ∷ []) x q) [
         | inl old ↦ inl (x, filter-was p v.consumers x old, grew-same log does.reply.packets x refl)
         | inr own ↦ inr (ap Some (Contains-one d x own))
       ];
       apart = Apart-push (filter p v.consumers) d (Apart-filter p v.consumers b.apart) (λ c q. b.fresh c (filter-was p v.consumers c q));
       none = λ n h. refl;
+      speaks = λ x q. subst (Speaks log v does.reply.packets (Some d)) (Contains-one (Answer what.asker what.attempt (next_name v) known.incarnation what.start) x q)
+          (record { it = d; made_it = refl; name = refl; asker_is = refl; attempt_is = refl; number_is = inc; start_is = refl });
     }
 
 -- ---- a pump
@@ -254,10 +373,28 @@ grew-pumps laws log packets name m c budget now true reads l sent = record {
 }
 grew-pumps laws log packets name m c budget now false reads l sent = grew-same log packets c sent
 
-evolves-pumps : Laws → (log : List Rec) (v : View) (name : List ℕ) (m : Made) (rows : List Numbered) (budget now : ℕ) → Before log v → live log name ≡ Some m → rows ≡ kept m.history →
-    Evolves log v (sends v (flat_map (pump_packets rows budget) (consumers_of name v.consumers)) (for_stream name (pumped rows budget now) v.consumers) v.askers)
+-- a packet of a pump
+pump-speaks : Laws → (log : List Rec) (v : View) (packets : List Packet) (m : Made) (c : ConsumerState) (budget : ℕ) (p : Packet) → Contains v.consumers c → live log c.stream ≡ Some m → delivered c.name packets ≡ pump_rows (kept m.history) budget c → MadeOk c.stream m →
+    Said c c.progress.count (pump_rows (kept m.history) budget c) p → Speaks log v packets None p
+pump-speaks laws log v packets m c budget (Ask asker attempt origin stream start filters) stood l own ok said = tt
+pump-speaks laws log v packets m c budget (Answer asker attempt consumer number start) stood l own ok said = absurd said
+pump-speaks laws log v packets m c budget (Refuse asker attempt code err_code) stood l own ok said = tt
+pump-speaks laws log v packets m c budget (Delivery asker attempt stream consumer number seq pending message) stood l own ok said = record {
+  it = c;
+  stood = stood;
+  sent = subst (λ (r : List Numbered). IsSentBy c c.progress.count r asker attempt stream consumer number seq message) (sym own) said;
+  origin = m;
+  reads_it = l;
+  was_put = pump-put laws m.history c budget said.place (record { seq = seq; message = message }) (made-rise laws c.stream m ok) said.row;
+}
+pump-speaks laws log v packets m c budget (Beat asker attempt origin stream consumer last_number last_seq stalled) stood l own ok said = absurd said
+pump-speaks laws log v packets m c budget (FlowAsk asker attempt origin stream consumer token) stood l own ok said = tt
+pump-speaks laws log v packets m c budget (FlowReply origin stream consumer token) stood l own ok said = tt
+
+evolves-pumps : Laws → (log : List Rec) (v : View) (called : ShardCall) (name : List ℕ) (m : Made) (rows : List Numbered) (budget now : ℕ) → Before log v → live log name ≡ Some m → rows ≡ kept m.history →
+    Evolves log v called (sends v (flat_map (pump_packets rows budget) (consumers_of name v.consumers)) (for_stream name (pumped rows budget now) v.consumers) v.askers)
 unfolding pumped_if
-evolves-pumps laws log v name m rows budget now b l same =
+evolves-pumps laws log v called name m rows budget now b l same =
     let f : ConsumerState → ConsumerState = λ c. pumped_if (reads_stream name c) rows budget now c in
     let g : ConsumerState → List Packet = pump_packets rows budget in
     let packets : List Packet = flat_map g (consumers_of name v.consumers) in
@@ -266,6 +403,7 @@ evolves-pumps laws log v name m rows budget now b l same =
       made = None;
       made_is = λ h e a. refl;
       new = λ d e. no_made (IsNew log v (sends v packets (for_stream name (pumped rows budget now) v.consumers) v.askers)) d e;
+      asked = λ d e. no_made (IsMadeFor log called) d e;
       back = λ d here. let w = map-back f v.consumers d here in
           inl (
             w.of,
@@ -278,6 +416,46 @@ evolves-pumps laws log v name m rows budget now b l same =
       apart = Apart-map f (λ c. pumped-name (reads_stream name c) rows budget now c) v.consumers b.apart;
       none = λ n h. delivered-none (reads_stream name) g n (λ d f. pump-else n d rows budget f) v.consumers
           (λ c q e. h (f c) (map-on f v.consumers c q) (pumped-name (reads_stream name c) rows budget now c ∙ e));
+      speaks = λ p q.
+          (let w = flat-back g (consumers_of name v.consumers) p q in
+          let it = w.of in
+          let stood : Contains v.consumers it = filter-was (reads_stream name) v.consumers it w.here in
+          let reads : reads_stream name it ≡ true = filter-pass (reads_stream name) v.consumers it w.here in
+          let own : delivered it.name packets ≡ pump_rows rows budget it =
+          delivered-one (reads_stream name) g it.name (λ d f. pump-else it.name d rows budget f) v.consumers it b.apart stood refl
+          ∙ (ap (λ t. cond t (delivered it.name (g it)) []) reads ∙ pump-own it rows budget) in
+          pump-speaks laws log v packets m it budget p stood (ap (live log) (same_bytes it.stream name reads) ∙ l) (own ∙ ap (λ r. pump_rows r budget it) same) (subst (λ n. MadeOk n m) (sym (same_bytes it.stream name reads)) (live-ok log name m b.logs l))
+          (subst (λ (r : List Numbered). Said it it.progress.count (pump_rows r budget it) p) same (pump-said it rows budget p w.part)));
+    }
+
+-- ---- where a consumer starts
+
+since-positive : (moment : ℕ) (rows : List Numbered) (end : ℕ) → EachRow (λ r. 1 ≤ r.seq) rows → 1 ≤ end → 1 ≤ number_since moment rows end
+since-positive moment [] end h le = le
+since-positive moment (row ∷ rows) end h le = by (leb moment row.message.time) (since-positive moment rows end h.1 le)
+  where
+    by : (t : Bool) → 1 ≤ number_since moment rows end → 1 ≤ cond t row.seq (number_since moment rows end)
+    by true q = h.0
+    by false q = q
+
+kept-positive : (h : History) → NumbersRise h.entries → EachRow (λ r. 1 ≤ r.seq) (kept h)
+kept-positive h rise = EachRow-weaker (λ r. put r.seq h.entries ≡ Some r.message) (λ r. 1 ≤ r.seq) (λ r q. put-positive h.entries r.seq r.message rise q) (kept h) (kept-put h rise)
+
+max_one : (n : ℕ) → 1 ≤ n → max 1 n ≡ n
+max_one n le = omega arith
+
+right-start : (h : History) (start : Start) → NumbersRise h.entries → IsRightStart h start (consumer_start (facts h) start)
+right-start h (Seq n) rise = refl
+right-start h (Time moment) rise =
+    let rows_is : (facts h).rows ≡ kept h = (facts-tell h).rows in
+    let last_is : (facts h).last ≡ last h.entries = (facts-tell h).last in
+    let same : number_since moment (facts h).rows ((facts h).last + 1) ≡ number_since moment (kept h) (last h.entries + 1) =
+    ap (λ (r : List Numbered). number_since moment r ((facts h).last + 1)) rows_is ∙ ap (λ n. number_since moment (kept h) (n + 1)) last_is in
+    record {
+      front = h.entries;
+      rest = [];
+      whole = sym (append-nil h.entries);
+      is = ap (max 1) same ∙ max_one (number_since moment (kept h) (last h.entries + 1)) (since-positive moment (kept h) (last h.entries + 1) (kept-positive h rise) (omega arith));
     }
 
 -- ---- records
@@ -299,7 +477,7 @@ if_found : View → Option Numbered → Answered
 if_found v None = Err refusal.NoMessage
 if_found v (Some row) = Ok (reads v (outcome.Found row))
 
-module _ (laws : Laws) (log : List Rec) (v : View) (b : Before log v) where
+module _ (log : List Rec) (v : View) (b : Before log v) where
   -- what is known of a stream that stands, by its log
   pub live-known : (name : List ℕ) (known : NameFacts) → live_in v.image name ≡ Some known → (m : Made) × (live log name ≡ Some m) × (known_of (incarnation log name) m ≡ known)
   live-known name known e = by (live log name) refl (sym ((images-tell log).live name) ∙ (ap (λ i. live_in i name) (sym b.image_is) ∙ e))
@@ -308,6 +486,7 @@ module _ (laws : Laws) (log : List Rec) (v : View) (b : Before log v) where
       by None l f = absurd (cc)
       by (Some m) l f = (m, l, (cc))
 
+module _ (laws : Laws) (log : List Rec) (v : View) (b : Before log v) (called : ShardCall) where
   may-by-image : (r : Rec) → MayFollowImage v.image r → MayFollow log r
   may-by-image r may = (tell-legal log r).0 (subst (λ i. MayFollowImage i r) b.image_is may)
 
@@ -321,7 +500,7 @@ module _ (laws : Laws) (log : List Rec) (v : View) (b : Before log v) where
   -- an entry joins the history of a stream that stands
   adds-entry : (does : Effect) (name : List ℕ) (known : NameFacts) (e : Entry) → does.records ≡ Of name e ∷ [] → live_in v.image name ≡ Some known → EntryOk known.stream e → Adds log does
   adds-entry does name known e are here ok =
-      let k = live-known name known here in
+      let k = live-known log v b name known here in
       let f_is : facts k.0.history ≡ known.stream = ap (λ (x : NameFacts). x.stream) k.2 in
       record {
         one = Some (Of name e);
@@ -376,60 +555,60 @@ module _ (laws : Laws) (log : List Rec) (v : View) (b : Before log v) where
   same_Ok x y e = cc
 
   -- a call that reads
-  row-reads : (o : Outcome) → ((h : Held) → made_by o h ≡ []) → Row log v (reads v o)
-  row-reads o makes = record { adds = adds-none (reads v o) refl; evolves = evolves-same log v (reads v o) b.apart refl (record { given = omega arith; makes = makes; none = λ name. refl }) }
+  row-reads : (o : Outcome) → ((h : Held) → made_by o h ≡ []) → Row log v called (reads v o)
+  row-reads o makes = record { adds = adds-none (reads v o) refl; evolves = evolves-same log v called (reads v o) b.apart refl (quiet-none log v (reads v o) (omega arith) makes refl) }
 
   -- a call that writes an entry
-  row-writes : (name : List ℕ) (known : NameFacts) (e : Entry) (o : Outcome) → ((h : Held) → made_by o h ≡ []) → live_in v.image name ≡ Some known → EntryOk known.stream e → Row log v (writes v name known.stream e o)
+  row-writes : (name : List ℕ) (known : NameFacts) (e : Entry) (o : Outcome) → ((h : Held) → made_by o h ≡ []) → live_in v.image name ≡ Some known → EntryOk known.stream e → Row log v called (writes v name known.stream e o)
   row-writes name known e o makes here ok = record {
     adds = adds-entry (writes v name known.stream e o) name known e refl here ok;
-    evolves = evolves-same log v (writes v name known.stream e o) b.apart refl (record { given = omega arith; makes = makes; none = λ n. refl });
+    evolves = evolves-same log v called (writes v name known.stream e o) b.apart refl (quiet-none log v (writes v name known.stream e o) (omega arith) makes refl);
   }
 
   -- an entry that takes something, or none
   row-takes : (does : Effect) (name : List ℕ) (known : NameFacts) (e : Entry) (count : ℕ) (o : Outcome) (t : Bool) → ((h : Held) → made_by o h ≡ []) → live_in v.image name ≡ Some known → EntryOk known.stream e →
-      fine does ≡ cond t (fine (reads v o)) (fine (writes v name known.stream e o)) → Row log v does
-  row-takes does name known e count o true makes here ok q = subst (Row log v) (sym (same_Ok does (reads v o) q)) (row-reads o makes)
-  row-takes does name known e count o false makes here ok q = subst (Row log v) (sym (same_Ok does (writes v name known.stream e o) q)) (row-writes name known e o makes here ok)
+      fine does ≡ cond t (fine (reads v o)) (fine (writes v name known.stream e o)) → Row log v called does
+  row-takes does name known e count o true makes here ok q = subst (Row log v called) (sym (same_Ok does (reads v o) q)) (row-reads o makes)
+  row-takes does name known e count o false makes here ok q = subst (Row log v called) (sym (same_Ok does (writes v name known.stream e o) q)) (row-writes name known e o makes here ok)
 
-  row-create : (c : Config) (now : ℕ) → config_fault c ≡ None → live_in v.image c.name ≡ None → has_number v.image (Create now c) ≡ true → Row log v (creates v c now)
+  row-create : (c : Config) (now : ℕ) → config_fault c ≡ None → live_in v.image c.name ≡ None → has_number v.image (Create now c) ≡ true → Row log v called (creates v c now)
   row-create c now fault free number = record {
     adds = adds-create (creates v c now) c now refl refl fault free number;
-    evolves = evolves-same log v (creates v c now) b.apart refl (record { given = omega arith; makes = λ h. refl; none = λ name. asks-none name (with_record v (Create now c)) (copies_under (with_record v (Create now c)).image c.name) });
+    evolves = evolves-same log v called (creates v c now) b.apart refl (quiet-asks log v (creates v c now) (with_record v (Create now c)) (copies_under (with_record v (Create now c)).image c.name) (omega arith) (λ h. refl) refl);
   }
 
   new_by : (does : Effect) (c : Config) (now : ℕ) (t : Bool) → ((r : Rec) → does.records ≡ r ∷ [] → has_number v.image r ≡ true) → config_fault c ≡ None → live_in v.image c.name ≡ None →
-      fine does ≡ cond t (turned refusal.TooManyStreams) (fine (creates v c now)) → Row log v does
+      fine does ≡ cond t (turned refusal.TooManyStreams) (fine (creates v c now)) → Row log v called does
   new_by does c now true number fault free q = absurd (cc)
   new_by does c now false number fault free q =
       let same = same_Ok does (creates v c now) q in
-      subst (Row log v) (sym same) (row-create c now fault free (number (Create now c) (ap (λ (x : Effect). x.records) same)))
+      subst (Row log v called) (sym same) (row-create c now fault free (number (Create now c) (ap (λ (x : Effect). x.records) same)))
 
-  create_by : (does : Effect) (c : Config) (now : ℕ) (fault : Option (List ℕ)) (o : Option NameFacts) → ((r : Rec) → does.records ≡ r ∷ [] → has_number v.image r ≡ true) → config_fault c ≡ fault → live_in v.image c.name ≡ o → Creates v c now fault o (Ok does) → Row log v does
+  create_by : (does : Effect) (c : Config) (now : ℕ) (fault : Option (List ℕ)) (o : Option NameFacts) → ((r : Rec) → does.records ≡ r ∷ [] → has_number v.image r ≡ true) → config_fault c ≡ fault → live_in v.image c.name ≡ o → Creates v c now fault o (Ok does) → Row log v called does
   create_by does c now (Some member) o number e f a = absurd (cc)
   create_by does c now None (Some known) number e f a = elim a [
-    | inl same ↦ subst (Row log v) (sym (same_Ok does (reads v (outcome.Made false)) same.1)) (row-reads (outcome.Made false) (λ h. refl))
+    | inl same ↦ subst (Row log v called) (sym (same_Ok does (reads v (outcome.Made false)) same.1)) (row-reads (outcome.Made false) (λ h. refl))
     | inr other ↦ (let z = other.1 in absurd (cc))
   ]
   create_by does c now None None number e f a = new_by does c now (leb 256 (length (live_names v.image))) number e f a
 
-  update_by : (does : Effect) (c : Config) (fault : Option (List ℕ)) (o : Option NameFacts) → config_fault c ≡ fault → live_in v.image c.name ≡ o → Updates v c fault o (Ok does) → Row log v does
+  update_by : (does : Effect) (c : Config) (fault : Option (List ℕ)) (o : Option NameFacts) → config_fault c ≡ fault → live_in v.image c.name ≡ o → Updates v c fault o (Ok does) → Row log v called does
   update_by does c fault None e f a = absurd (cc)
   update_by does c (Some member) (Some known) e f a = absurd (cc)
   update_by does c None (Some known) e f a = elim a [
-    | inl keeps ↦ subst (Row log v) (sym (same_Ok does (writes v c.name known.stream (Limits c) outcome.Updated) keeps.1))
+    | inl keeps ↦ subst (Row log v called) (sym (same_Ok does (writes v c.name known.stream (Limits c) outcome.Updated) keeps.1))
         (row-writes c.name known (Limits c) outcome.Updated (λ h. refl) f (record { fits = keeps.0; faultless = e; number = λ no. tt }))
     | inr changes ↦ (let z = changes.1 in absurd (cc))
   ]
 
-  remove_by : (does : Effect) (name : List ℕ) (o : Option NameFacts) → live_in v.image name ≡ o → fine does ≡ removes v name o → Row log v does
+  remove_by : (does : Effect) (name : List ℕ) (o : Option NameFacts) → live_in v.image name ≡ o → fine does ≡ removes v name o → Row log v called does
   remove_by does name None f a = absurd (cc)
   remove_by does name (Some known) f a =
       let p : ConsumerState → Bool = λ c. not (reads_stream name c) in
       let same = same_Ok does _ a in
-      subst (Row log v) (sym same) (record {
+      subst (Row log v called) (sym same) (record {
         adds = adds-remove _ name known refl refl f;
-        evolves = evolves-filter log v _ p b.apart refl (record { given = omega arith; makes = λ h. refl; none = λ n. refl });
+        evolves = evolves-filter log v called _ p b.apart refl (quiet-none log v _ (omega arith) (λ h. refl) refl);
       })
 
   -- ---- messages
@@ -466,108 +645,117 @@ module _ (laws : Laws) (log : List Rec) (v : View) (b : Before log v) where
       (cond (is_full f.config (rows_with f.config m f.rows f.last)) (Some (full (rows_with f.config m f.rows f.last))) None)
       (verdict-end (earlier_refusal f.config m) (repeat_by_facts f (first_value (codes "Nats-Msg-Id") m.headers) now) (later_refusal f.config m f.rows f.last) e)
 
-  publish_by : (does : Effect) (name : List ℕ) (known : NameFacts) (m : Message) (now : ℕ) (r : Result Verdict Refusal) → live_in v.image name ≡ Some known → verdict_by_facts known.stream m now ≡ r → fine does ≡ publishes_by v name known.stream m now r → Row log v does
+  publish_by : (does : Effect) (name : List ℕ) (known : NameFacts) (m : Message) (now : ℕ) (r : Result Verdict Refusal) → live_in v.image name ≡ Some known → verdict_by_facts known.stream m now ≡ r → fine does ≡ publishes_by v name known.stream m now r → Row log v called does
   publish_by does name known m now (Ok Fresh) here e a =
-      let k = live-known name known here in
+      let k = live-known log v b name known here in
       let f_is : facts k.0.history ≡ known.stream = ap (λ (x : NameFacts). x.stream) k.2 in
       let below : known.stream.last < 2 ^ 63 =
       subst (λ n. n < 2 ^ 63) (sym (facts-tell k.0.history).last ∙ ap (λ (x : StreamFacts). x.last) f_is) (fit-bound k.0.history (live-ok log name k.0 b.logs k.1).fit) in
       let other : known.stream.last ≢ 2 ^ 63 - 1 = eqb-false known.stream.last (2 ^ 63 - 1) (fresh-last known.stream m now e) in
-      subst (Row log v) (sym (same_Ok does _ a))
+      subst (Row log v called) (sym (same_Ok does _ a))
       (row-writes name known (Put (known.stream.last + 1) (at_time (max now known.stream.clock) m) None) (outcome.Stored (known.stream.last + 1)) (λ h. refl) here
       (record { fits = (omega arith, omega arith, tt); faultless = tt; number = λ no. refl }))
-  publish_by does name known m now (Ok (IsDuplicate seq)) here e a = subst (Row log v) (sym (same_Ok does (reads v (outcome.Duplicate seq)) a)) (row-reads (outcome.Duplicate seq) (λ h. refl))
+  publish_by does name known m now (Ok (IsDuplicate seq)) here e a = subst (Row log v called) (sym (same_Ok does (reads v (outcome.Duplicate seq)) a)) (row-reads (outcome.Duplicate seq) (λ h. refl))
   publish_by does name known m now (Err why) here e a = absurd (cc)
 
   subject_by : (does : Effect) (name : List ℕ) (known : NameFacts) (m : Message) (now : ℕ) (t : Bool) → live_in v.image name ≡ Some known →
-      fine does ≡ cond t (publishes_by v name known.stream (transformed known.stream.config m) now (verdict_by_facts known.stream (transformed known.stream.config m) now)) (Err refusal.NoStream) → Row log v does
+      fine does ≡ cond t (publishes_by v name known.stream (transformed known.stream.config m) now (verdict_by_facts known.stream (transformed known.stream.config m) now)) (Err refusal.NoStream) → Row log v called does
   subject_by does name known m now true here a = publish_by does name known (transformed known.stream.config m) now (verdict_by_facts known.stream (transformed known.stream.config m) now) here refl a
   subject_by does name known m now false here a = absurd (cc)
 
-  publishes_row : (does : Effect) (name : List ℕ) (m : Message) (now : ℕ) (o : Option NameFacts) → live_in v.image name ≡ o → fine does ≡ publishes v name m now o → Row log v does
+  publishes_row : (does : Effect) (name : List ℕ) (m : Message) (now : ℕ) (o : Option NameFacts) → live_in v.image name ≡ o → fine does ≡ publishes v name m now o → Row log v called does
   publishes_row does name m now None here a = absurd (cc)
   publishes_row does name m now (Some known) here a = subject_by does name known m now (takes_subject known.stream.config m.subject) here a
 
-  delete_by : (does : Effect) (name : List ℕ) (known : NameFacts) (seq : ℕ) (o : Option Message) → live_in v.image name ≡ Some known → message_at seq known.stream.rows ≡ o → fine does ≡ if_kept v name known seq o → Row log v does
+  delete_by : (does : Effect) (name : List ℕ) (known : NameFacts) (seq : ℕ) (o : Option Message) → live_in v.image name ≡ Some known → message_at seq known.stream.rows ≡ o → fine does ≡ if_kept v name known seq o → Row log v called does
   unfolding if_kept
   delete_by does name known seq None here e a = absurd (cc)
-  delete_by does name known seq (Some m) here e a = subst (Row log v) (sym (same_Ok does _ a))
+  delete_by does name known seq (Some m) here e a = subst (Row log v called) (sym (same_Ok does _ a))
       (row-writes name known (Del seq) outcome.Deleted (λ h. refl) here (record { fits = subst IsSome (sym e) refl; faultless = tt; number = λ no. tt }))
 
-  deletes_row : (does : Effect) (name : List ℕ) (seq : ℕ) (o : Option NameFacts) → live_in v.image name ≡ o → fine does ≡ deletes v name seq o → Row log v does
+  deletes_row : (does : Effect) (name : List ℕ) (seq : ℕ) (o : Option NameFacts) → live_in v.image name ≡ o → fine does ≡ deletes v name seq o → Row log v called does
   unfolding if_kept
   deletes_row does name seq None here a = absurd (cc)
   deletes_row does name seq (Some known) here a = delete_by does name known seq (message_at seq known.stream.rows) here refl a
 
-  purges_row : (does : Effect) (name pattern : List ℕ) (below : Option ℕ) (o : Option NameFacts) → live_in v.image name ≡ o → fine does ≡ purges v name pattern below o → Row log v does
+  purges_row : (does : Effect) (name pattern : List ℕ) (below : Option ℕ) (o : Option NameFacts) → live_in v.image name ≡ o → fine does ≡ purges v name pattern below o → Row log v called does
   purges_row does name pattern below None here a = absurd (cc)
   purges_row does name pattern below (Some known) here a =
       let end : ℕ = below_or_all below known.stream.last in
       let count : ℕ = count_by (is_purged pattern end) known.stream.rows in
       row-takes does name known (Purge pattern end) count (outcome.Purged count) (eqb count 0) (λ h. refl) here (record { fits = tt; faultless = tt; number = λ no. tt }) a
 
-  expires_row : (does : Effect) (name : List ℕ) (now : ℕ) (o : Option NameFacts) → live_in v.image name ≡ o → fine does ≡ expires v name now o → Row log v does
+  expires_row : (does : Effect) (name : List ℕ) (now : ℕ) (o : Option NameFacts) → live_in v.image name ≡ o → fine does ≡ expires v name now o → Row log v called does
   expires_row does name now None here a = absurd (cc)
   expires_row does name now (Some known) here a =
       let count : ℕ = count_by (is_expired known.stream.config.max_age now) known.stream.rows in
       row-takes does name known (Expire now) count (outcome.Expired count) (eqb count 0) (λ h. refl) here (record { fits = tt; faultless = tt; number = λ no. tt }) a
 
-  get_by : (does : Effect) (o : Option Numbered) → fine does ≡ if_found v o → Row log v does
+  get_by : (does : Effect) (o : Option Numbered) → fine does ≡ if_found v o → Row log v called does
   unfolding if_found
   get_by does None a = absurd (cc)
-  get_by does (Some row) a = subst (Row log v) (sym (same_Ok does (reads v (outcome.Found row)) a)) (row-reads (outcome.Found row) (λ h. refl))
+  get_by does (Some row) a = subst (Row log v called) (sym (same_Ok does (reads v (outcome.Found row)) a)) (row-reads (outcome.Found row) (λ h. refl))
 
-  gets_row : (does : Effect) (which : Which) (o : Option NameFacts) → fine does ≡ gets v which o → Row log v does
+  gets_row : (does : Effect) (which : Which) (o : Option NameFacts) → fine does ≡ gets v which o → Row log v called does
   unfolding if_found
   gets_row does which None a = absurd (cc)
   gets_row does which (Some known) a = get_by does (row_by known.stream.rows which) a
 
-  informs_row : (does : Effect) (name : List ℕ) (o : Option NameFacts) → fine does ≡ informs v name o → Row log v does
+  informs_row : (does : Effect) (name : List ℕ) (o : Option NameFacts) → fine does ≡ informs v name o → Row log v called does
   informs_row does name None a = absurd (cc)
-  informs_row does name (Some known) a = subst (Row log v) (sym (same_Ok does _ a)) (row-reads _ (λ h. refl))
+  informs_row does name (Some known) a = subst (Row log v called) (sym (same_Ok does _ a)) (row-reads _ (λ h. refl))
 
   -- ---- consumers
 
-  row-sends : (packets : List Packet) (consumers : List ConsumerState) (askers : Askers) → Evolves log v (sends v packets consumers askers) → Row log v (sends v packets consumers askers)
+  row-sends : (packets : List Packet) (consumers : List ConsumerState) (askers : Askers) → Evolves log v called (sends v packets consumers askers) → Row log v called (sends v packets consumers askers)
   row-sends packets consumers askers e = record { adds = adds-none (sends v packets consumers askers) refl; evolves = e }
 
-  row-makes : (now : ℕ) (known : NameFacts) (name : List ℕ) (what : Wanted) → live_in v.image name ≡ Some known → Row log v (makes_consumer v now known name what)
-  row-makes now known name what here =
-      let k = live-known name known here in
-      record { adds = adds-none (makes_consumer v now known name what) refl; evolves = evolves-made log v now known name what k.0 b k.1 }
+  row-makes : (now : ℕ) (known : NameFacts) (name : List ℕ) (what : Wanted) → live_in v.image name ≡ Some known → IsMadeFor log called (new_consumer (next_name v) name what now) → Row log v called (makes_consumer v now known name what)
+  row-makes now known name what here for =
+      let k = live-known log v b name known here in
+      record { adds = adds-none (makes_consumer v now known name what) refl; evolves = evolves-made log v called now known name what k.0 b k.1 (ap (λ (x : NameFacts). x.incarnation) (sym k.2)) for }
 
-  make_by : (does : Effect) (now : ℕ) (known : NameFacts) (name : List ℕ) (what : Wanted) (t : Bool) (why : ShardRefusal) → live_in v.image name ≡ Some known → fine does ≡ cond t (Ok (makes_consumer v now known name what)) (Err why) → Row log v does
-  make_by does now known name what true why here a = subst (Row log v) (sym (same_Ok does _ a)) (row-makes now known name what here)
-  make_by does now known name what false why here a = absurd (cc)
+  make_by : (does : Effect) (now : ℕ) (known : NameFacts) (name : List ℕ) (what : Wanted) (t : Bool) (why : ShardRefusal) → live_in v.image name ≡ Some known → IsMadeFor log called (new_consumer (next_name v) name what now) → fine does ≡ cond t (Ok (makes_consumer v now known name what)) (Err why) → Row log v called does
+  make_by does now known name what true why here for a = subst (Row log v called) (sym (same_Ok does _ a)) (row-makes now known name what here for)
+  make_by does now known name what false why here for a = absurd (cc)
 
-  make_unless : (does : Effect) (now : ℕ) (known : NameFacts) (name : List ℕ) (what : Wanted) (t : Bool) (why : ShardRefusal) → live_in v.image name ≡ Some known → fine does ≡ cond t (Err why) (Ok (makes_consumer v now known name what)) → Row log v does
-  make_unless does now known name what true why here a = absurd (cc)
-  make_unless does now known name what false why here a = subst (Row log v) (sym (same_Ok does _ a)) (row-makes now known name what here)
+  make_unless : (does : Effect) (now : ℕ) (known : NameFacts) (name : List ℕ) (what : Wanted) (t : Bool) (why : ShardRefusal) → live_in v.image name ≡ Some known → IsMadeFor log called (new_consumer (next_name v) name what now) → fine does ≡ cond t (Err why) (Ok (makes_consumer v now known name what)) → Row log v called does
+  make_unless does now known name what true why here for a = absurd (cc)
+  make_unless does now known name what false why here for a = subst (Row log v called) (sym (same_Ok does _ a)) (row-makes now known name what here for)
 
-  make_for : (does : Effect) (now : ℕ) (known : NameFacts) (name : List ℕ) (what : Wanted) (present : Option ConsumerState) → live_in v.image name ≡ Some known → fine does ≡ makes_for v now known name what present → Row log v does
-  make_for does now known name what None here a = make_unless does now known name what (leb 1024 (count_by (reads_stream name) v.consumers)) refusal.TooManyConsumers here a
-  make_for does now known name what (Some present) here a = make_by does now known name what (is_earlier present.wanted.attempt what.attempt) (refusal.OldAttempt present.wanted.attempt what.attempt) here a
+  make_for : (does : Effect) (now : ℕ) (known : NameFacts) (name : List ℕ) (what : Wanted) (present : Option ConsumerState) → live_in v.image name ≡ Some known → IsMadeFor log called (new_consumer (next_name v) name what now) → fine does ≡ makes_for v now known name what present → Row log v called does
+  make_for does now known name what None here for a = make_unless does now known name what (leb 1024 (count_by (reads_stream name) v.consumers)) refusal.TooManyConsumers here for a
+  make_for does now known name what (Some present) here for a = make_by does now known name what (is_earlier present.wanted.attempt what.attempt) (refusal.OldAttempt present.wanted.attempt what.attempt) here for a
 
-  make_asked : (does : Effect) (now : ℕ) (name : List ℕ) (asker : AskerId) (attempt : Stamp) (origin : List ℕ) (start : Start) (filters : List (List ℕ)) (o : Option NameFacts) → live_in v.image name ≡ o → fine does ≡ makes_asked v now name asker attempt origin start filters o → Row log v does
-  make_asked does now name asker attempt origin start filters None here a = absurd (cc)
-  make_asked does now name asker attempt origin start filters (Some known) here a =
-      make_for does now known name (record { asker = asker; attempt = attempt; origin = origin; start = consumer_start known.stream start; filters = filters }) (find (serves name asker) v.consumers) here a
+  -- a consumer starts where it should
+  begins-right : (name : List ℕ) (known : NameFacts) (start : Start) → live_in v.image name ≡ Some known → (m : Made) → live log name ≡ Some m → IsRightStart m.history start (consumer_start known.stream start)
+  begins-right name known start here m l =
+      let k = live-known log v b name known here in
+      let same : k.0 ≡ m = (let q : Some k.0 ≡ Some m = sym k.1 ∙ l in cc) in
+      let f_is : facts m.history ≡ known.stream = ap (λ (x : Made). facts x.history) (sym same) ∙ ap (λ (x : NameFacts). x.stream) k.2 in
+      subst (λ (f : StreamFacts). IsRightStart m.history start (consumer_start f start)) f_is (right-start m.history start (made-rise laws name m (live-ok log name m b.logs l)))
 
-  makes_row : (does : Effect) (now : ℕ) (ask : Packet) → fine does ≡ makes v now ask → Row log v does
-  makes_row does now (Ask asker attempt origin stream start filters) a = make_asked does now stream asker attempt origin start filters (live_in v.image stream) refl a
-  makes_row does now (Answer asker attempt consumer incarnation start) a = absurd (cc)
-  makes_row does now (Refuse asker attempt code err_code) a = absurd (cc)
-  makes_row does now (Delivery asker attempt stream consumer number seq pending message) a = absurd (cc)
-  makes_row does now (Beat asker attempt origin stream consumer last_number last_seq stalled) a = absurd (cc)
-  makes_row does now (FlowAsk asker attempt origin stream consumer token) a = absurd (cc)
-  makes_row does now (FlowReply origin stream consumer token) a = absurd (cc)
+  make_asked : (does : Effect) (now : ℕ) (name : List ℕ) (asker : AskerId) (attempt : Stamp) (origin : List ℕ) (start : Start) (filters : List (List ℕ)) (o : Option NameFacts) → called ≡ call.MakeConsumer (Ask asker attempt origin name start filters) now → live_in v.image name ≡ o → fine does ≡ makes_asked v now name asker attempt origin start filters o → Row log v called does
+  make_asked does now name asker attempt origin start filters None is here a = absurd (cc)
+  make_asked does now name asker attempt origin start filters (Some known) is here a =
+      make_for does now known name (record { asker = asker; attempt = attempt; origin = origin; start = consumer_start known.stream start; filters = filters }) (find (serves name asker) v.consumers) here
+      (record { asker = asker; attempt = attempt; origin = origin; start = start; filters = filters; now = now; is = is; wanted = refl; begins = begins-right name known start here }) a
 
-  pumps_row : (does : Effect) (name : List ℕ) (budget now : ℕ) (o : Option NameFacts) → live_in v.image name ≡ o → fine does ≡ pumps v name budget now o → Row log v does
+  makes_row : (does : Effect) (now : ℕ) (ask : Packet) → called ≡ call.MakeConsumer ask now → fine does ≡ makes v now ask → Row log v called does
+  makes_row does now (Ask asker attempt origin stream start filters) is a = make_asked does now stream asker attempt origin start filters (live_in v.image stream) is refl a
+  makes_row does now (Answer asker attempt consumer incarnation start) is a = absurd (cc)
+  makes_row does now (Refuse asker attempt code err_code) is a = absurd (cc)
+  makes_row does now (Delivery asker attempt stream consumer number seq pending message) is a = absurd (cc)
+  makes_row does now (Beat asker attempt origin stream consumer last_number last_seq stalled) is a = absurd (cc)
+  makes_row does now (FlowAsk asker attempt origin stream consumer token) is a = absurd (cc)
+  makes_row does now (FlowReply origin stream consumer token) is a = absurd (cc)
+
+  pumps_row : (does : Effect) (name : List ℕ) (budget now : ℕ) (o : Option NameFacts) → live_in v.image name ≡ o → fine does ≡ pumps v name budget now o → Row log v called does
   pumps_row does name budget now None here a = absurd (cc)
   pumps_row does name budget now (Some known) here a =
-      let k = live-known name known here in
+      let k = live-known log v b name known here in
       let rows : known.stream.rows ≡ kept k.0.history = ap (λ (x : NameFacts). x.stream.rows) (sym k.2) ∙ (facts-tell k.0.history).rows in
-      subst (Row log v) (sym (same_Ok does _ a)) (row-sends _ _ _ (evolves-pumps laws log v name k.0 known.stream.rows budget now b k.1 rows))
+      subst (Row log v called) (sym (same_Ok does _ a)) (row-sends _ _ _ (evolves-pumps laws log v called name k.0 known.stream.rows budget now b k.1 rows))
 
   -- an answer to a flow request
   same_sent : (t : Bool) (s : Sendings) (token : ℕ) → (cond t (record s { answered = token }) s).sent ≡ s.sent
@@ -583,21 +771,21 @@ module _ (laws : Laws) (log : List Rec) (v : View) (b : Before log v) where
   token-changes true false token c = (refl, refl, refl, still-right c)
   token-changes false u token c = (refl, refl, refl, still-right c)
 
-  tokens_row : (does : Effect) (stream : List ℕ) (consumer : Stamp) (token : ℕ) (o : Option NameFacts) → fine does ≡ takes_at v stream consumer token o → Row log v does
+  tokens_row : (does : Effect) (stream : List ℕ) (consumer : Stamp) (token : ℕ) (o : Option NameFacts) → fine does ≡ takes_at v stream consumer token o → Row log v called does
   unfolding token_if
   tokens_row does stream consumer token None a = absurd (cc)
   tokens_row does stream consumer token (Some known) a =
       let f : ConsumerState → ConsumerState = λ c. token_if (reads_stream stream c) (same_stamp c.name consumer) token c in
       let new : List ConsumerState = for_stream stream (λ c. cond (same_stamp c.name consumer) (takes_token token c) c) v.consumers in
-      subst (Row log v) (sym (same_Ok does (sends v [] new v.askers) a)) (row-sends [] new v.askers
-      (evolves-map log v (sends v [] new v.askers) f b.apart refl (record { given = omega arith; makes = λ h. refl; none = λ n. refl }) (record {
+      subst (Row log v called) (sym (same_Ok does (sends v [] new v.askers) a)) (row-sends [] new v.askers
+      (evolves-map log v called (sends v [] new v.askers) f b.apart refl (quiet-none log v _ (omega arith) (λ h. refl) refl) (record {
         name = λ c. (token-changes (reads_stream stream c) (same_stamp c.name consumer) token c).0;
         stream = λ c. (token-changes (reads_stream stream c) (same_stamp c.name consumer) token c).1;
         wanted = λ c. (token-changes (reads_stream stream c) (same_stamp c.name consumer) token c).2;
         right = λ c. (token-changes (reads_stream stream c) (same_stamp c.name consumer) token c).3;
       })))
 
-  replies_row : (does : Effect) (packet : Packet) → fine does ≡ takes_reply v packet → Row log v does
+  replies_row : (does : Effect) (packet : Packet) → fine does ≡ takes_reply v packet → Row log v called does
   replies_row does (Ask asker attempt origin stream start filters) a = absurd (cc)
   replies_row does (Answer asker attempt consumer incarnation start) a = absurd (cc)
   replies_row does (Refuse asker attempt code err_code) a = absurd (cc)
@@ -625,14 +813,14 @@ module _ (laws : Laws) (log : List Rec) (v : View) (b : Before log v) where
     right = λ c. (pause-changes (bytes_eq c.wanted.asker.node node) there c).3;
   }
 
-  reaches_row : (node : List ℕ) (there : Bool) (now : ℕ) → Row log v (reaches v node there now)
+  reaches_row : (node : List ℕ) (there : Bool) (now : ℕ) → Row log v called (reaches v node there now)
   reaches_row node true now = record {
     adds = adds-none (reaches v node true now) refl;
-    evolves = evolves-map log v (reaches v node true now) (paused_for node true) b.apart refl (record { given = omega arith; makes = λ h. refl; none = λ n. asks-none n v (copies_of_node v node) }) (paused-changes node true);
+    evolves = evolves-map log v called (reaches v node true now) (paused_for node true) b.apart refl (quiet-asks log v (reaches v node true now) v (copies_of_node v node) (omega arith) (λ h. refl) refl) (paused-changes node true);
   }
   reaches_row node false now = record {
     adds = adds-none (reaches v node false now) refl;
-    evolves = evolves-map log v (reaches v node false now) (paused_for node false) b.apart refl (record { given = omega arith; makes = λ h. refl; none = λ n. refl }) (paused-changes node false);
+    evolves = evolves-map log v called (reaches v node false now) (paused_for node false) b.apart refl (quiet-none log v _ (omega arith) (λ h. refl) refl) (paused-changes node false);
   }
 
   beat_if : Bool → ℕ → ConsumerState → ConsumerState
@@ -652,37 +840,41 @@ module _ (laws : Laws) (log : List Rec) (v : View) (b : Before log v) where
     right = λ c h s ok. (s, refl, laws.beats_right h c s now ok);
   }
 
-  ticks_row : (now : ℕ) → Row log v (ticks v now)
+  ticks_row : (now : ℕ) → Row log v called (ticks v now)
   ticks_row now = record {
     adds = adds-none (ticks v now) refl;
-    evolves = evolves-map log v (ticks v now) (after_beat now) b.apart refl (record {
+    evolves = evolves-map log v called (ticks v now) (after_beat now) b.apart refl (record {
       given = omega arith;
       makes = λ h. refl;
       none = λ n. append-none n (flat_map (beats_of v now) (live_names v.image)) (asks_of v (due_copies v now)) (flat-none n (beats_of v now) (beats-none n v now) (live_names v.image)) (asks-none n v (due_copies v now));
+      speaks = λ p q. elim (Contains-append_cases (flat_map (beats_of v now) (live_names v.image)) (asks_of v (due_copies v now)) p q) [
+        | inl beaten ↦ (let w = flat-back (beats_of v now) (live_names v.image) p beaten in beats-speak log v (ticks v now).reply.packets now w.of p w.part)
+        | inr asked ↦ asks-speak log v (ticks v now).reply.packets v (due_copies v now) p asked
+      ];
     }) (beats-changes now);
   }
 
   -- ---- packets for copies
 
-  quiet-row : (does : Effect) → does.records ≡ [] → does.consumers ≡ v.consumers → IsQuiet v does → Row log v does
-  quiet-row does none same q = record { adds = adds-none does none; evolves = evolves-same log v does b.apart same q }
+  quiet-row : (does : Effect) → does.records ≡ [] → does.consumers ≡ v.consumers → IsQuiet log v does → Row log v called does
+  quiet-row does none same q = record { adds = adds-none does none; evolves = evolves-same log v called does b.apart same q }
 
-  entry-row : (does : Effect) (c : Copy) (e : Entry) → does.records ≡ Of c.stream e ∷ [] → does.consumers ≡ v.consumers → IsQuiet v does → IsCopyOf v.image c → EntryOk c.facts e → Row log v does
-  entry-row does c e are same q is ok = record { adds = adds-entry does c.stream is.known e are is.here (subst (λ (f : StreamFacts). EntryOk f e) is.facts ok); evolves = evolves-same log v does b.apart same q }
+  entry-row : (does : Effect) (c : Copy) (e : Entry) → does.records ≡ Of c.stream e ∷ [] → does.consumers ≡ v.consumers → IsQuiet log v does → IsCopyOf v.image c → EntryOk c.facts e → Row log v called does
+  entry-row does c e are same q is ok = record { adds = adds-entry does c.stream is.known e are is.here (subst (λ (f : StreamFacts). EntryOk f e) is.facts ok); evolves = evolves-same log v called does b.apart same q }
 
-  follows_row : (c : Copy) (now : ℕ) (packet : Packet) (phase : Phase) (d : Decision) → IsCopyOf v.image c → IfEntry (EntryOk c.facts) d → Row log v (follows v c now packet phase d)
-  follows_row c now packet phase (Store e) is ok = entry-row (follows v c now packet phase (Store e)) c e refl refl (record { given = omega arith; makes = λ h. refl; none = λ n. refl }) is ok
-  follows_row c now packet phase (Binds e) is ok = entry-row (follows v c now packet phase (Binds e)) c e refl refl (record { given = omega arith; makes = λ h. refl; none = λ n. refl }) is ok
-  follows_row c now packet phase Rebind is ok = quiet-row (follows v c now packet phase Rebind) refl refl (record { given = omega arith; makes = λ h. refl; none = λ n. refl })
-  follows_row c now packet phase Skip is ok = quiet-row (follows v c now packet phase Skip) refl refl (record { given = omega arith; makes = λ h. refl; none = λ n. refl })
+  follows_row : (c : Copy) (now : ℕ) (packet : Packet) (phase : Phase) (d : Decision) → IsCopyOf v.image c → IfEntry (EntryOk c.facts) d → Row log v called (follows v c now packet phase d)
+  follows_row c now packet phase (Store e) is ok = entry-row (follows v c now packet phase (Store e)) c e refl refl (quiet-none log v _ (omega arith) (λ h. refl) refl) is ok
+  follows_row c now packet phase (Binds e) is ok = entry-row (follows v c now packet phase (Binds e)) c e refl refl (quiet-none log v _ (omega arith) (λ h. refl) refl) is ok
+  follows_row c now packet phase Rebind is ok = quiet-row (follows v c now packet phase Rebind) refl refl (quiet-none log v _ (omega arith) (λ h. refl) refl)
+  follows_row c now packet phase Skip is ok = quiet-row (follows v c now packet phase Skip) refl refl (quiet-none log v _ (omega arith) (λ h. refl) refl)
   follows_row c now packet phase (Ignore why) is ok = row-reads (outcome.Heard (Ignore why)) (λ h. refl)
-  follows_row c now packet phase (AskAgain why) is ok = quiet-row (follows v c now packet phase (AskAgain why)) refl refl (record { given = omega arith; makes = λ h. refl; none = λ n. refl })
-  follows_row c now packet phase Reply is ok = quiet-row (follows v c now packet phase Reply) refl refl (record { given = omega arith; makes = λ h. refl; none = λ n. flow-none n packet })
-  follows_row c now packet phase Hears is ok = quiet-row (follows v c now packet phase Hears) refl refl (record { given = omega arith; makes = λ h. refl; none = λ n. refl })
+  follows_row c now packet phase (AskAgain why) is ok = quiet-row (follows v c now packet phase (AskAgain why)) refl refl (quiet-asks log v (follows v c now packet phase (AskAgain why)) v (c ∷ []) (omega arith) (λ h. refl) refl)
+  follows_row c now packet phase Reply is ok = quiet-row (follows v c now packet phase Reply) refl refl (record { given = omega arith; makes = λ h. refl; none = λ n. flow-none n packet; speaks = λ p q. flow-speaks log v (flow_answer packet) packet p q })
+  follows_row c now packet phase Hears is ok = quiet-row (follows v c now packet phase Hears) refl refl (quiet-none log v _ (omega arith) (λ h. refl) refl)
   follows_row c now packet phase IsRefused is ok = row-reads (outcome.Heard IsRefused) (λ h. refl)
-  follows_row c now packet phase (Stop kept seen) is ok = quiet-row (follows v c now packet phase (Stop kept seen)) refl refl (record { given = omega arith; makes = λ h. refl; none = λ n. refl })
+  follows_row c now packet phase (Stop kept seen) is ok = quiet-row (follows v c now packet phase (Stop kept seen)) refl refl (quiet-none log v _ (omega arith) (λ h. refl) refl)
 
-  hears_row : (now : ℕ) (packet : Packet) (o : Option Copy) → copy_of_asker v (addressee packet) ≡ o → Row log v (hears v now packet o)
+  hears_row : (now : ℕ) (packet : Packet) (o : Option Copy) → copy_of_asker v (addressee packet) ≡ o → Row log v called (hears v now packet o)
   hears_row now packet None e = row-reads (outcome.Heard (Ignore Foreign)) (λ h. refl)
   hears_row now packet (Some c) e =
       let is = heard-copy v (addressee packet) c e in
@@ -690,25 +882,26 @@ module _ (laws : Laws) (log : List Rec) (v : View) (b : Before log v) where
 
   -- ---- the table
 
-  quiet-sends : (askers : Askers) → Row log v (sends v [] v.consumers askers)
-  quiet-sends askers = quiet-row (sends v [] v.consumers askers) refl refl (record { given = omega arith; makes = λ h. refl; none = λ n. refl })
+  quiet-sends : (askers : Askers) → Row log v called (sends v [] v.consumers askers)
+  quiet-sends askers = quiet-row (sends v [] v.consumers askers) refl refl (quiet-none log v _ (omega arith) (λ h. refl) refl)
 
+module _ (laws : Laws) (log : List Rec) (v : View) (b : Before log v) where
   -- What is answered adds what may stand, and leaves what consumers have sent right.
-  pub row-of : (c : ShardCall) (does : Effect) → ((r : Rec) → does.records ≡ r ∷ [] → has_number v.image r ≡ true) → Answers v c (Ok does) → Row log v does
-  row-of (call.Create config now) does number a = create_by does config now (config_fault config) (live_in v.image config.name) number refl refl a
-  row-of (call.Update config) does number a = update_by does config (config_fault config) (live_in v.image config.name) refl refl a
-  row-of (call.Remove name) does number a = remove_by does name (live_in v.image name) refl a
-  row-of (call.Publish name message now) does number a = publishes_row does name message now (live_in v.image name) refl a
-  row-of (call.Delete name seq) does number a = deletes_row does name seq (live_in v.image name) refl a
-  row-of (call.Purge name pattern below) does number a = purges_row does name pattern below (live_in v.image name) refl a
-  row-of (call.Expire name now) does number a = expires_row does name now (live_in v.image name) refl a
-  row-of (call.Get name which) does number a = gets_row does which (live_in v.image name) a
-  row-of (call.Info name) does number a = informs_row does name (live_in v.image name) a
-  row-of call.Names does number a = subst (Row log v) (sym (same_Ok does _ a)) (row-reads (outcome.Listed (live_names v.image)) (λ h. refl))
-  row-of (call.MakeConsumer ask now) does number a = makes_row does now ask a
-  row-of (call.Pump name budget now) does number a = pumps_row does name budget now (live_in v.image name) refl a
-  row-of (call.FlowReply packet) does number a = replies_row does packet a
-  row-of (call.Reach node there now) does number a = subst (Row log v) (sym (same_Ok does _ a)) (reaches_row node there now)
-  row-of (call.Heard packet now) does number a = subst (Row log v) (sym (same_Ok does _ a)) (hears_row now packet (copy_of_asker v (addressee packet)) refl)
-  row-of (call.Tick now) does number a = subst (Row log v) (sym (same_Ok does _ a)) (ticks_row now)
-  row-of call.LinkLost does number a = subst (Row log v) (sym (same_Ok does _ a)) (quiet-sends (idle_askers v.askers))
+  pub row-of : (c : ShardCall) (does : Effect) → ((r : Rec) → does.records ≡ r ∷ [] → has_number v.image r ≡ true) → Answers v c (Ok does) → Row log v c does
+  row-of (call.Create config now) does number a = create_by laws log v b (call.Create config now) does config now (config_fault config) (live_in v.image config.name) number refl refl a
+  row-of (call.Update config) does number a = update_by laws log v b (call.Update config) does config (config_fault config) (live_in v.image config.name) refl refl a
+  row-of (call.Remove name) does number a = remove_by laws log v b (call.Remove name) does name (live_in v.image name) refl a
+  row-of (call.Publish name message now) does number a = publishes_row laws log v b (call.Publish name message now) does name message now (live_in v.image name) refl a
+  row-of (call.Delete name seq) does number a = deletes_row laws log v b (call.Delete name seq) does name seq (live_in v.image name) refl a
+  row-of (call.Purge name pattern below) does number a = purges_row laws log v b (call.Purge name pattern below) does name pattern below (live_in v.image name) refl a
+  row-of (call.Expire name now) does number a = expires_row laws log v b (call.Expire name now) does name now (live_in v.image name) refl a
+  row-of (call.Get name which) does number a = gets_row laws log v b (call.Get name which) does which (live_in v.image name) a
+  row-of (call.Info name) does number a = informs_row laws log v b (call.Info name) does name (live_in v.image name) a
+  row-of call.Names does number a = subst (Row log v call.Names) (sym (same_Ok laws log v b call.Names does _ a)) (row-reads laws log v b call.Names (outcome.Listed (live_names v.image)) (λ h. refl))
+  row-of (call.MakeConsumer ask now) does number a = makes_row laws log v b (call.MakeConsumer ask now) does now ask refl a
+  row-of (call.Pump name budget now) does number a = pumps_row laws log v b (call.Pump name budget now) does name budget now (live_in v.image name) refl a
+  row-of (call.FlowReply packet) does number a = replies_row laws log v b (call.FlowReply packet) does packet a
+  row-of (call.Reach node there now) does number a = subst (Row log v (call.Reach node there now)) (sym (same_Ok laws log v b (call.Reach node there now) does _ a)) (reaches_row laws log v b (call.Reach node there now) node there now)
+  row-of (call.Heard packet now) does number a = subst (Row log v (call.Heard packet now)) (sym (same_Ok laws log v b (call.Heard packet now) does _ a)) (hears_row laws log v b (call.Heard packet now) now packet (copy_of_asker v (addressee packet)) refl)
+  row-of (call.Tick now) does number a = subst (Row log v (call.Tick now)) (sym (same_Ok laws log v b (call.Tick now) does _ a)) (ticks_row laws log v b (call.Tick now) now)
+  row-of call.LinkLost does number a = subst (Row log v call.LinkLost) (sym (same_Ok laws log v b call.LinkLost does _ a)) (quiet-sends laws log v b call.LinkLost (idle_askers v.askers))

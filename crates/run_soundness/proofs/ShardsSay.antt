@@ -1,136 +1,136 @@
 -- What a reply says of consumers is so.
-use Rattle.std.proofs.Common.{◌≡◌, ◌≢◌, ℕ, zero, suc, ◌+◌, ◌-◌, ◌<◌, ◌≤◌, Bool, true, false, cond, ◌||◌, eqb, List, [], ◌∷◌, ◌++◌, length, Option, Some, None, IsTrue, refl, sym, ap, ◌∙◌, subst, arith, ◌⊎◌, inl, inr, length-append}
-use Rattle.std.specs.Prelude.{map, filter, flat_map, slice_get, Contains, Result, Ok, Err}
-use Rattle.std.specs.List.{find}
-use Rattle.std.proofs.lemmas.List.Elements.{Contains-append_cases}
+use Rattle.std.proofs.Common.{◌≡◌, ℕ, suc, ◌+◌, ◌≤◌, true, List, [], ◌∷◌, ◌++◌, length, Option, Some, IsTrue, refl, sym, ap, ◌∙◌, subst, arith, length-append}
+use Rattle.std.specs.Prelude.{zero, slice_get, Contains}
+use Rattle.std.proofs.lemmas.List.{length-map}
 use Rattle.nats_text.specs.declared.message.Message.{Message}
 use Rattle.nats_text.specs.declared.message.Stamp.{Stamp}
 use Rattle.js_wire.specs.declared.packet.AskerId.{AskerId}
 use Rattle.js_wire.specs.declared.packet.Packet.{Packet}
 use Rattle.js_wire.specs.declared.packet.Packet.TheVariants.{Ask, Answer, Refuse, Delivery, Beat, FlowAsk, FlowReply}
 use Rattle.stream_fold.specs.declared.entry.Numbered.{Numbered}
-use Rattle.stream_fold.specs.Histories.{History, put, kept, NumbersRise}
-use Rattle.stream_fold.specs.Publishing.{is_next}
-use Rattle.stream_fold.specs.RowLists.{EachRow, seqs}
-use Rattle.stream_fold.proofs.KeptRows.{EachRow-filter, kept-put}
-use Rattle.push_consumer.specs.Chains.{Sent, Sendings, chain}
-use Rattle.push_consumer.specs.Progress.{ConsumerState, Progress, is_spent, asks, delivered as more_delivered, requested, after_row, next_number, latest_token}
-use Rattle.push_consumer.specs.Pumps.{pump_packets, pump_rows, rows_sent, packets_sent, packets_of, flow_request}
-use Rattle.push_consumer.specs.Sends.{to_send, rows_from}
+use Rattle.stream_fold.specs.Histories.{put}
+use Rattle.stream_fold.specs.RowLists.{seqs}
+use Rattle.record_codec.specs.declared.records.Rec.{Rec}
+use Rattle.push_consumer.specs.declared.wanted.Wanted.{Wanted}
+use Rattle.push_consumer.specs.Chains.{Sent, chain}
+use Rattle.push_consumer.specs.Progress.{ConsumerState}
+use Rattle.shard_machine.specs.declared.call.ShardCall.{ShardCall}
+use Rattle.shard_machine.specs.Logs.{Made, incarnation, live}
+use Rattle.shard_machine.specs.Images.{LogImage, incarnation_in}
+use Rattle.shard_machine.specs.Views.{Effect}
+use Rattle.shard_machine.specs.Steps.{view_in}
+use Rattle.shard_machine.proofs.Images.{images-tell}
+use Rattle.run_soundness.specs.Shards.{Consumer, ShardState, IsRead, delivered, sent_now}
 use Rattle.run_soundness.specs.Soundness.{SaysOf, names_consumer}
 use Rattle.run_soundness.proofs.Laws.{Laws}
-use Rattle.run_soundness.proofs.Lists.{cons-cases, Contains-none, Contains-head, Contains-tail}
+use Rattle.run_soundness.proofs.Histories.{put-on}
+use Rattle.run_soundness.proofs.Logs.{Stands, live-is, live-from, hist-append}
+use Rattle.run_soundness.proofs.ShardsRows.{Speaks, IsAnswered, IsDelivered, IsBeat}
+use Rattle.run_soundness.proofs.ShardsKept.{ShardOk, AnswersOn, ghost_of, row, next_log, held-image, still-there, made-there, stands-with, made_now}
+use Rattle.run_soundness.proofs.ShardsGrow.{chain-now}
 
--- ---- the deliveries of a pump
+-- it is said of a consumer that was made at this shard
+pub record IsSo (s : ShardState) (p : Packet) : Type 0 where
+  pub c : Consumer
+  pub ever : Contains s.ever c
+  pub says : SaysOf p s.log c
 
--- a packet of a consumer: the delivery of this row as this number, or a flow request
-pub record IsSentBy (c : ConsumerState) (first : ℕ) (rows : List Numbered) (asker : AskerId) (attempt : Stamp) (stream : List ℕ) (consumer : Stamp) (number seq : ℕ) (message : Message) : Type 0 where
-  pub asker_is : asker ≡ c.wanted.asker
-  pub attempt_is : attempt ≡ c.wanted.attempt
-  pub stream_is : stream ≡ c.stream
-  pub name_is : consumer ≡ c.name
-  pub place : ℕ
-  pub number_is : number ≡ suc (first + place)
-  pub row : slice_get rows place ≡ Some (record { seq = seq; message = message })
+-- a number behind the first part of a list
+get-behind : (xs ys : List ℕ) (n k x : ℕ) → n ≡ length xs → slice_get ys k ≡ Some x → slice_get (xs ++ ys) (n + k) ≡ Some x
+get-behind [] ys n k x e q = subst (λ i. slice_get ys i ≡ Some x) (let z : k ≡ n + k = omega arith in z) q
+get-behind (y ∷ xs) ys n k x e q =
+    subst (λ i. slice_get (y ∷ (xs ++ ys)) i ≡ Some x) (let z : suc (length xs + k) ≡ n + k = omega arith in z) (get-behind xs ys (length xs) k x refl q)
 
--- what the packets are of which one is meant
-abbrev Said : ConsumerState → ℕ → List Numbered → Packet → Type 0
-Said c first rows (Ask asker attempt origin stream start filters) = ⊥
-Said c first rows (Answer asker attempt consumer incarnation start) = ⊥
-Said c first rows (Refuse asker attempt code err_code) = ⊥
-Said c first rows (Delivery asker attempt stream consumer number seq pending message) = IsSentBy c first rows asker attempt stream consumer number seq message
-Said c first rows (Beat asker attempt origin stream consumer last_number last_seq stalled) = ⊥
-Said c first rows (FlowAsk asker attempt origin stream consumer token) = Unit {0}
-Said c first rows (FlowReply origin stream consumer token) = ⊥
+seq-at : (rows : List Numbered) (i : ℕ) (row : Numbered) → slice_get rows i ≡ Some row → slice_get (seqs rows) i ≡ Some row.seq
+seq-at [] i row e = absurd (cc)
+seq-at (r ∷ rows) zero row e = (let same : r ≡ row = cc in ap (λ (x : Numbered). Some x.seq) same)
+seq-at (r ∷ rows) (suc i) row e = seq-at rows i row e
 
--- the count of deliveries behind one more
-count-row : (q : Progress) (row : Numbered) → (after_row q row).count ≡ q.count + 1
-count-row q row = by (asks (more_delivered q row))
-  where
-    by : (b : Bool) → (cond b (requested (more_delivered q row)) (more_delivered q row)).count ≡ q.count + 1
-    by true = refl
-    by false = refl
+module _ (laws : Laws) (mid new : ShardState) (call : ShardCall) (does : Effect) (ok : ShardOk mid) (loaded : mid.held.loaded ≡ true) (a : AnswersOn mid call does new) where
+  -- what stood before, as it is now
+  abbrev now-of : Consumer → Consumer
+  now-of k = sent_now does.consumers does.reply.packets k
 
-request-said : (c : ConsumerState) (q : Progress) (first : ℕ) (rows : List Numbered) (p : Packet) → Contains (flow_request c q) p → Said c first rows p
-request-said c q first rows p h = by (asks q) h
-  where
-    by : (b : Bool) → Contains (cond b (FlowAsk c.wanted.asker c.wanted.attempt c.wanted.origin c.stream c.name (latest_token q + 1) ∷ []) []) p → Said c first rows p
-    by true g = elim (cons-cases (FlowAsk c.wanted.asker c.wanted.attempt c.wanted.origin c.stream c.name (latest_token q + 1)) [] p g) [ inl e ↦ subst (Said c first rows) e tt | inr none ↦ absurd (Contains-none p none) ]
-    by false g = absurd (Contains-none p g)
+  counts : (c : ConsumerState) (q : Contains mid.held.consumers c) → c.progress.count ≡ length (chain (ok.standing c q).made_as.sent)
+  counts c q =
+      let st = ok.standing c q in
+      st.right.stands.count ∙ sym (length-map st.made_as.sent.sent (λ (x : Sent). x.seq))
 
-later-said : (c : ConsumerState) (first : ℕ) (row : Numbered) (rows : List Numbered) (p : Packet) → Said c (first + 1) rows p → Said c first (row ∷ rows) p
-later-said c first row rows (Ask asker attempt origin stream start filters) h = absurd h
-later-said c first row rows (Answer asker attempt consumer incarnation start) h = absurd h
-later-said c first row rows (Refuse asker attempt code err_code) h = absurd h
-later-said c first row rows (Delivery asker attempt stream consumer number seq pending message) h = record {
-  asker_is = h.asker_is;
-  attempt_is = h.attempt_is;
-  stream_is = h.stream_is;
-  name_is = h.name_is;
-  place = suc h.place;
-  number_is = h.number_is ∙ (let z : suc (first + 1 + h.place) ≡ suc (first + suc h.place) = omega arith in z);
-  row = h.row;
-}
-later-said c first row rows (Beat asker attempt origin stream consumer last_number last_seq stalled) h = absurd h
-later-said c first row rows (FlowAsk asker attempt origin stream consumer token) h = tt
-later-said c first row rows (FlowReply origin stream consumer token) h = absurd h
+  answered-so : (asker : AskerId) (attempt consumer : Stamp) (number start : ℕ) → IsAnswered mid.log (made_now laws mid new call does ok loaded a) asker attempt consumer number start → IsSo new (Answer asker attempt consumer number start)
+  answered-so asker attempt consumer number start w =
+      let r = row laws mid new call does ok loaded a in
+      let n = r.evolves.new w.it w.made_it in
+      let li = live-is mid.log w.it.stream n.known n.reads_it in
+      let nl : List Rec = next_log laws mid new call does ok loaded a in
+      let there : Stands nl w.it.stream (incarnation mid.log w.it.stream) = stands-with mid.log r.adds.one w.it.stream (incarnation mid.log w.it.stream) (λ x is. r.adds.leaves x is w.it n.here) li.0 in
+      let inc : incarnation_in new.held.image w.it.stream ≡ incarnation mid.log w.it.stream =
+      ap (λ (i : LogImage). incarnation_in i w.it.stream) (held-image laws mid new call does ok loaded a) ∙ ((images-tell nl).incarnation w.it.stream ∙ sym there.latest) in
+      record {
+        c = ghost_of new.held.image w.it;
+        ever = made-there laws mid new call does ok loaded a w.it w.made_it;
+        says = (
+          sym w.name,
+          sym w.asker_is,
+          sym w.attempt_is,
+          inc ∙ sym w.number_is,
+          sym w.start_is,
+        );
+      }
 
-own-said : (c : ConsumerState) (q : Progress) (waiting : ℕ) (row : Numbered) (rows : List Numbered) (p : Packet) → Contains (packets_of c q waiting row) p → Said c q.count (row ∷ rows) p
-own-said c q waiting row rows p h = elim (cons-cases (Delivery c.wanted.asker c.wanted.attempt c.stream c.name (q.count + 1) row.seq waiting row.message) (flow_request c (more_delivered q row)) p h) [
-  | inl e ↦ subst (Said c q.count (row ∷ rows)) e (record { asker_is = refl; attempt_is = refl; stream_is = refl; name_is = refl; place = 0; number_is = omega arith; row = refl })
-  | inr more ↦ request-said c (more_delivered q row) q.count (row ∷ rows) p more
-]
+  delivered-so : (asker : AskerId) (attempt : Stamp) (stream : List ℕ) (consumer : Stamp) (number seq pending : ℕ) (message : Message) → IsDelivered mid.log (view_in mid.held) does.reply.packets asker attempt stream consumer number seq message →
+      IsSo new (Delivery asker attempt stream consumer number seq pending message)
+  delivered-so asker attempt stream consumer number seq pending message w =
+      let st = ok.standing w.it w.stood in
+      let k = st.made_as in
+      let rows : List Numbered = delivered w.it.name does.reply.packets in
+      let more : chain (now-of k).sent ≡ chain k.sent ++ seqs rows = chain-now does.consumers does.reply.packets k ∙ ap (λ (n : Stamp). chain k.sent ++ seqs (delivered n does.reply.packets)) st.name in
+      let here : slice_get (chain k.sent ++ seqs rows) (w.it.progress.count + w.sent.place) ≡ Some seq =
+      get-behind (chain k.sent) (seqs rows) w.it.progress.count w.sent.place seq (counts w.it w.stood) (seq-at rows w.sent.place (record { seq = seq; message = message }) w.sent.row) in
+      let on = hist-append mid.log does.records k.stream k.incarnation st.origin st.reads in
+      let l : live mid.log w.it.stream ≡ Some st.origin = ap (live mid.log) (sym st.stream) ∙ live-from mid.log k.stream k.incarnation st.origin st.stands st.reads in
+      let same : w.origin ≡ st.origin = (let q : Some w.origin ≡ Some st.origin = sym w.reads_it ∙ l in cc) in
+      record {
+        c = now-of k;
+        ever = still-there laws mid new call does ok loaded a k st.among;
+        says = (
+          st.name ∙ sym w.sent.name_is,
+          ap (λ (x : Wanted). x.asker) st.wanted ∙ sym w.sent.asker_is,
+          ap (λ (x : Wanted). x.attempt) st.wanted ∙ sym w.sent.attempt_is,
+          st.stream ∙ sym w.sent.stream_is,
+          (w.it.progress.count + w.sent.place, w.sent.number_is, subst (λ (l : List ℕ). slice_get l (w.it.progress.count + w.sent.place) ≡ Some seq) (sym more) here),
+          (on.0, subst (λ (l : List Rec). IsRead l (now-of k) on.0) (sym a.log) on.1, put-on st.origin.history on.0.history seq message on.2.history (subst (λ (m : Made). put seq m.history.entries ≡ Some message) same w.was_put)),
+        );
+      }
 
-said-step : (c : ConsumerState) (q : Progress) (b : Bool) (own rest : List Packet) (row : Numbered) (rows : List Numbered) (p : Packet) → (Contains own p → Said c q.count (row ∷ rows) p) → (Contains rest p → Said c (q.count + 1) rows p) →
-    Contains (cond b [] (own ++ rest)) p → Said c q.count (cond b [] (row ∷ rows)) p
-said-step c q true own rest row rows p f g h = absurd (Contains-none p h)
-said-step c q false own rest row rows p f g h = elim (Contains-append_cases own rest p h) [ inl o ↦ f o | inr r ↦ later-said c q.count row rows p (g r) ]
+  beat-so : (asker : AskerId) (attempt : Stamp) (origin stream : List ℕ) (consumer : Stamp) (last_number last_seq : ℕ) (stalled : Option ℕ) → IsBeat (view_in mid.held) asker attempt stream consumer last_number → IsSo new (Beat asker attempt origin stream consumer last_number last_seq stalled)
+  beat-so asker attempt origin stream consumer last_number last_seq stalled w =
+      let st = ok.standing w.it w.stood in
+      let k = st.made_as in
+      let more = chain-now does.consumers does.reply.packets k in
+      let longer : length (chain (now-of k).sent) ≡ length (chain k.sent) + length (seqs (delivered k.name does.reply.packets)) = ap (λ (l : List ℕ). length l) more ∙ length-append (chain k.sent) (seqs (delivered k.name does.reply.packets)) in
+      let count = counts w.it w.stood in
+      let is = w.number_is in
+      record {
+        c = now-of k;
+        ever = still-there laws mid new call does ok loaded a k st.among;
+        says = (
+          st.name ∙ sym w.name,
+          ap (λ (x : Wanted). x.asker) st.wanted ∙ sym w.asker_is,
+          ap (λ (x : Wanted). x.attempt) st.wanted ∙ sym w.attempt_is,
+          st.stream ∙ sym w.stream_is,
+          (let le : last_number ≤ length (chain (now-of k).sent) = omega arith in le),
+        );
+      }
 
--- each packet that a consumer sends is a delivery of one of the rows, or a flow request
-sent-said : (c : ConsumerState) (budget : ℕ) (q : Progress) (rows : List Numbered) (p : Packet) → Contains (packets_sent c budget q rows) p → Said c q.count (rows_sent budget q rows) p
-sent-said c budget q [] p h = absurd (Contains-none p h)
-sent-said c budget q (row ∷ rows) p h =
-    said-step c q (eqb budget 0 || is_spent q) (packets_of c q (length rows) row) (packets_sent c (budget - 1) (after_row q row) rows) row (rows_sent (budget - 1) (after_row q row) rows) p
-    (own-said c q (length rows) row (rows_sent (budget - 1) (after_row q row) rows) p)
-    (λ r. subst (λ n. Said c n (rows_sent (budget - 1) (after_row q row) rows) p) (count-row q row) (sent-said c (budget - 1) (after_row q row) rows p r)) h
+  so-by : (p : Packet) → Speaks mid.log (view_in mid.held) does.reply.packets (made_now laws mid new call does ok loaded a) p → IsTrue (names_consumer p) → IsSo new p
+  so-by (Ask asker attempt origin stream start filters) w t = absurd (cc)
+  so-by (Answer asker attempt consumer number start) w t = answered-so asker attempt consumer number start w
+  so-by (Refuse asker attempt code err_code) w t = absurd (cc)
+  so-by (Delivery asker attempt stream consumer number seq pending message) w t = delivered-so asker attempt stream consumer number seq pending message w
+  so-by (Beat asker attempt origin stream consumer last_number last_seq stalled) w t = beat-so asker attempt origin stream consumer last_number last_seq stalled w
+  so-by (FlowAsk asker attempt origin stream consumer token) w t = absurd (cc)
+  so-by (FlowReply origin stream consumer token) w t = absurd (cc)
 
-pub pump-said : (c : ConsumerState) (rows : List Numbered) (budget : ℕ) (p : Packet) → Contains (pump_packets rows budget c) p → Said c c.progress.count (pump_rows rows budget c) p
-pump-said c rows budget p h = by c.paused h
-  where
-    by : (b : Bool) → Contains (cond b [] (packets_sent c budget c.progress (to_send rows c))) p → Said c c.progress.count (cond b [] (rows_sent budget c.progress (to_send rows c))) p
-    by true g = absurd (Contains-none p g)
-    by false g = sent-said c budget c.progress (to_send rows c) p g
-
--- ---- the rows of a pump were put
-
-each-sent : (P : Numbered → Type 0) (budget : ℕ) (q : Progress) (rows : List Numbered) → EachRow P rows → EachRow P (rows_sent budget q rows)
-each-sent P budget q [] h = tt
-each-sent P budget q (row ∷ rows) h = by (eqb budget 0 || is_spent q)
-  where
-    rest : EachRow P (rows_sent (budget - 1) (after_row q row) rows)
-    rest = each-sent P (budget - 1) (after_row q row) rows h.1
-
-    by : (b : Bool) → EachRow P (cond b [] (row ∷ rows_sent (budget - 1) (after_row q row) rows))
-    by true = tt
-    by false = (h.0, rest)
-
-each-get : (P : Numbered → Type 0) (rows : List Numbered) (i : ℕ) (row : Numbered) → EachRow P rows → slice_get rows i ≡ Some row → P row
-each-get P [] i row h e = absurd (cc)
-each-get P (r ∷ rows) zero row h e = (let same : r ≡ row = cc in subst P same h.0)
-each-get P (r ∷ rows) (suc i) row h e = each-get P rows i row h.1 e
-
--- the rows that a pump sends were put as they are sent
-pub pump-put : Laws → (h : History) (c : ConsumerState) (budget i : ℕ) (row : Numbered) → NumbersRise h.entries → slice_get (pump_rows (kept h) budget c) i ≡ Some row → put row.seq h.entries ≡ Some row.message
-pump-put laws h c budget i row rise e = each-get P (pump_rows (kept h) budget c) i row (by c.paused) e
-  where
-    P : Numbered → Type 0
-    P r = put r.seq h.entries ≡ Some r.message
-
-    all : EachRow P (to_send (kept h) c)
-    all =
-        subst (EachRow P) (sym (laws.wanted (next_number c.wanted.start c.progress) c.wanted.filters (kept h) (laws.kept_rise h rise)))
-        (EachRow-filter P (is_next (next_number c.wanted.start c.progress) c.wanted.filters) (kept h) (kept-put h rise))
-
-    by : (b : Bool) → EachRow P (cond b [] (rows_sent budget c.progress (to_send (kept h) c)))
-    by true = tt
-    by false = each-sent P budget c.progress (to_send (kept h) c) all
+  -- Each answer, delivery and beat of a reply says of a consumer that was made here what is so.
+  pub says-answers : (p : Packet) → Contains does.reply.packets p → IsTrue (names_consumer p) → IsSo new p
+  says-answers p q t = so-by p ((row laws mid new call does ok loaded a).evolves.speaks p q) t

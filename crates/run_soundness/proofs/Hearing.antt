@@ -176,18 +176,18 @@ mirror-next : Laws → (w : World) (a : AskerId) (attempt name : Stamp) (k heard
 mirror-next laws w a attempt name k heard g want seq now m q n o is front f =
     if-test w a g want (Bound attempt name (suc k) heard) q now (is_back front seq) (Ignore (Back seq front)) (cond (is_large m) (Ignore (Large (capped (content_size m)))) (Store (Put seq m None))) (ignores w a g want (Bound attempt name (suc k) heard) q now (Back seq front) n.before)
     (λ t. if-test w a g want (Bound attempt name (suc k) heard) q now (is_large m) (Ignore (Large (capped (content_size m)))) (Store (Put seq m None)) (ignores w a g want (Bound attempt name (suc k) heard) q now (Large (capped (content_size m))) n.before)
-    (λ small fits no. let p = not-back front seq t in
+    (λ small fits un. let p = not-back front seq t in
     took-later w a g want (Some (Put seq m None)) attempt name k now (later-number w a attempt name k seq m g want n.next p.1)
     (in-mirror laws w a attempt name k heard g want seq now m n o is (subst (λ x. x < seq) f p.0) (fits (Put seq m None) refl))))
 
 source-made : Laws → (w : World) (a : AskerId) (attempt name : Stamp) (k heard : ℕ) (g : History) (want : Origin) (seq now : ℕ) (m : Message) (q : Packet) (n : AtNext w a attempt name k heard g want seq m) (os : List Origin) → g.config.copies ≡ Sources os → point (Sources os) a.index want g < seq → seq < 2 ^ 63 →
     (r : Reached) → r.last ≡ last g.entries → (o : Option Message) → via want m seq ≡ o → DecidedOk w a g want (Bound attempt name (suc k) heard) q now (on_made a.index r now seq o)
-source-made laws w a attempt name k heard g want seq now m q n os is above lt r same None vi fits no =
-    took-later w a g want None attempt name k now (later-number w a attempt name k seq m g want n.next lt) (skip-next w a attempt name k heard g want seq now m n
+source-made laws w a attempt name k heard g want seq now m q n os is above lt r same None vi =
+    λ fits un. took-later w a g want None attempt name k now (later-number w a attempt name k seq m g want n.next lt) (skip-next w a attempt name k heard g want seq now m n
     (λ st. (let z : IsToStore (Sources os) want m seq = subst (λ (c : Copies). IsToStore c want m seq) is st in let y : None ≡ Some z.0 = sym vi ∙ z.1 in cc)))
 source-made laws w a attempt name k heard g want seq now m q n os is above lt r same (Some v) vi =
     if-test w a g want (Bound attempt name (suc k) heard) q now (leb (2 ^ 63 - 1) r.last) (Ignore SeqEnd) (Store (Put (r.last + 1) (at_time (max now r.clock) v) (Some (record { index = a.index; seq = seq })))) (ignores w a g want (Bound attempt name (suc k) heard) q now SeqEnd n.before)
-    (λ t fits no. took-later w a g want (Some (Put (r.last + 1) (at_time (max now r.clock) v) (Some (record { index = a.index; seq = seq })))) attempt name k now (later-number w a attempt name k seq m g want n.next lt)
+    (λ t fits un. took-later w a g want (Some (Put (r.last + 1) (at_time (max now r.clock) v) (Some (record { index = a.index; seq = seq })))) attempt name k now (later-number w a attempt name k seq m g want n.next lt)
     (subst (λ x. HearOk w a g want (Some (Put (x + 1) (at_time (max now r.clock) v) (Some (record { index = a.index; seq = seq })))) (Bound attempt name (suc (suc k)) now)) (sym same)
     (in-source laws w a attempt name k heard g want seq now (max now r.clock) m v n os is above vi
     (subst (λ x. AllFit (with_entry g (Put (x + 1) (at_time (max now r.clock) v) (Some (record { index = a.index; seq = seq }))))) same (fits (Put (r.last + 1) (at_time (max now r.clock) v) (Some (record { index = a.index; seq = seq }))) refl)))))
@@ -227,17 +227,17 @@ first-bind laws w a attempt name since inc from now g want b d f more =
 
 by-inc : (w : World) (a : AskerId) (attempt name : Stamp) (since inc from now : ℕ) (g : History) (want : Origin) (q : Packet) → Before w a g want (Asking attempt since) → Answered w a attempt name inc from g want → consumer_named q ≡ name →
     (to : BoundTo) → bound a.index g.entries ≡ Some to → (t : Bool) → eqb to.incarnation inc ≡ t → DecidedOk w a g want (Asking attempt since) q now (cond t Rebind (Stop to.incarnation inc))
-by-inc w a attempt name since inc from now g want q b d named to e true t fits no =
-    let hb : HoldsBound w a.node g a.index want to = subst (λ (x : Option BoundTo). HoldsBy w a.node g a.index want x) e b.holds in
+by-inc w a attempt name since inc from now g want q b d named to e true t =
+    λ fits un. let hb : HoldsBound w a.node g a.index want to = subst (λ (x : Option BoundTo). HoldsBy w a.node g a.index want x) e b.holds in
     nothing-heard w a g want (Asking attempt since) (Bound attempt (consumer_named q) 1 now) b
     (subst (λ (x : Stamp). IsReading w a attempt x 1 g want) (sym named) (rebinds w a attempt name inc from g want d to e (sym (eqb-true to.incarnation inc t)) (stored-reached w a g want to b.fit hb)))
-by-inc w a attempt name since inc from now g want q b d named to e false t fits no = nothing-heard w a g want (Asking attempt since) (Stopped to.incarnation inc) b tt
+by-inc w a attempt name since inc from now g want q b d named to e false t = λ fits un. nothing-heard w a g want (Asking attempt since) (Stopped to.incarnation inc) b tt
 
 by-bound : Laws → (w : World) (a : AskerId) (attempt name : Stamp) (since inc from now : ℕ) (g : History) (want : Origin) (q : Packet) → Before w a g want (Asking attempt since) → Answered w a attempt name inc from g want → consumer_named q ≡ name →
     (index : ℕ) → index ≡ a.index → (o : Option BoundTo) → bound a.index g.entries ≡ o → DecidedOk w a g want (Asking attempt since) q now (on_answer index o inc from)
 by-bound laws w a attempt name since inc from now g want q b d named index at (Some to) e = by-inc w a attempt name since inc from now g want q b d named to e (eqb to.incarnation inc) refl
-by-bound laws w a attempt name since inc from now g want q b d named index at None e fits no =
-    subst (λ x. HearOk w a g want (Some (BindEntry x inc from)) (Bound attempt (consumer_named q) 1 now)) (sym at)
+by-bound laws w a attempt name since inc from now g want q b d named index at None e =
+    λ fits un. subst (λ x. HearOk w a g want (Some (BindEntry x inc from)) (Bound attempt (consumer_named q) 1 now)) (sym at)
     (subst (λ (x : Stamp). HearOk w a g want (Some (BindEntry a.index inc from)) (Bound attempt x 1 now)) (sym named)
     (first-bind laws w a attempt name since inc from now g want b d e (subst (λ x. AllFit (with_entry g (BindEntry x inc from))) at (fits (BindEntry index inc from) refl))))
 
@@ -271,7 +271,7 @@ module _ (laws : Laws) (w : World) (a : AskerId) (g : History) (want : Origin) (
   answer-by attempt name since inc from asker of b own q false f = ignores w a g want (Asking attempt since) (Answer asker of name inc from) now IsForeign b
 
   refuse-by : (attempt : Stamp) (since : ℕ) (q : Packet) → Before w a g want (Asking attempt since) → (t : Bool) → DecidedOk w a g want (Asking attempt since) q now (decide on_next index o (cond t RefuseOrder ForeignOrder) q)
-  refuse-by attempt since q b true fits no = nothing-heard w a g want (Asking attempt since) (Asking attempt since) b b.phase
+  refuse-by attempt since q b true = λ fits un. nothing-heard w a g want (Asking attempt since) (Asking attempt since) b b.phase
   refuse-by attempt since q b false = ignores w a g want (Asking attempt since) q now IsForeign b
 
   hears-asking : (attempt : Stamp) (since : ℕ) (q : Packet) → Before w a g want (Asking attempt since) → Contains w.bag q → addressee q ≡ Some a → DecidedOk w a g want (Asking attempt since) q now (decide on_next index o (order (Asking attempt since) q) q)
@@ -286,6 +286,7 @@ module _ (laws : Laws) (w : World) (a : AskerId) (g : History) (want : Origin) (
   next-by : (attempt name : Stamp) (next heard : ℕ) (stream : List ℕ) (number seq pending : ℕ) (m : Message) → Before w a g want (Bound attempt name next heard) →
       (asker : AskerId) (of c : Stamp) → asker ≡ a → of ≡ attempt → c ≡ name → Contains w.bag (Delivery asker of stream c number seq pending m) → number ≡ next →
       DecidedOk w a g want (Bound attempt name next heard) (Delivery asker of stream c number seq pending m) now (on_next (Delivery asker of stream c number seq pending m))
+  unfolding NextOk
   next-by attempt name zero heard stream number seq pending m b asker of c ea et ec q f =
       let q' = subst (λ (x : AskerId). Contains w.bag (Delivery x attempt stream name number seq pending m)) ea (subst (λ (x : Stamp). Contains w.bag (Delivery asker x stream name number seq pending m)) et (subst (λ (x : Stamp). Contains w.bag (Delivery asker of stream x number seq pending m)) ec q)) in
       let d = delivered w b.bag b.ok a attempt name zero g want b.phase stream number seq pending m q' in
@@ -314,7 +315,7 @@ module _ (laws : Laws) (w : World) (a : AskerId) (g : History) (want : Origin) (
       DecidedOk w a g want (Bound attempt name next heard) (Delivery asker of stream c number seq pending m) now (decide on_next index o (cond t Next (cond u (OldOrder number next) (GapOrder next number))) (Delivery asker of stream c number seq pending m))
   number-by attempt name next heard stream number seq pending m asker of c b h true u f = h (eqb-true number next f)
   number-by attempt name next heard stream number seq pending m asker of c b h false true f = ignores w a g want (Bound attempt name next heard) (Delivery asker of stream c number seq pending m) now (IsOld number next) b
-  number-by attempt name next heard stream number seq pending m asker of c b h false false f fits no = absurd (cc)
+  number-by attempt name next heard stream number seq pending m asker of c b h false false f = λ fits un. absurd (cc)
 
   delivery-by : (attempt name : Stamp) (next heard : ℕ) (stream : List ℕ) (number seq pending : ℕ) (m : Message) (asker : AskerId) (of c : Stamp) → Before w a g want (Bound attempt name next heard) → asker ≡ a →
       Contains w.bag (Delivery asker of stream c number seq pending m) → (t : Bool) → (same_stamp of attempt && same_stamp c name) ≡ t →
@@ -329,18 +330,18 @@ module _ (laws : Laws) (w : World) (a : AskerId) (g : History) (want : Origin) (
   bound-later attempt name next heard b = nothing-heard w a g want (Bound attempt name next heard) (Bound attempt name next now) b b.phase
 
   beats : (attempt name : Stamp) (next heard : ℕ) (q : Packet) (st : Option ℕ) → Before w a g want (Bound attempt name next heard) → DecidedOk w a g want (Bound attempt name next heard) q now (on_beat st)
-  beats attempt name next heard q None b fits no = bound-later attempt name next heard b
-  beats attempt name next heard q (Some t) b fits no = bound-later attempt name next heard b
+  beats attempt name next heard q None b = λ fits un. bound-later attempt name next heard b
+  beats attempt name next heard q (Some t) b = λ fits un. bound-later attempt name next heard b
 
   beat-by : (attempt name : Stamp) (next heard : ℕ) (x : AskerId) (of c : Stamp) (og s : List ℕ) (n i z : ℕ) (st : Option ℕ) → Before w a g want (Bound attempt name next heard) → (t u : Bool) →
       DecidedOk w a g want (Bound attempt name next heard) (Beat x of og s c n i st) now (decide on_next index o (cond t (cond u BeatOrder (GapOrder next z)) ForeignOrder) (Beat x of og s c n i st))
   beat-by attempt name next heard x of c og s n i z st b true true = beats attempt name next heard (Beat x of og s c n i st) st b
-  beat-by attempt name next heard x of c og s n i z st b true false fits no = absurd (cc)
+  beat-by attempt name next heard x of c og s n i z st b true false = λ fits un. absurd (cc)
   beat-by attempt name next heard x of c og s n i z st b false u = ignores w a g want (Bound attempt name next heard) (Beat x of og s c n i st) now IsForeign b
 
   flow-by : (attempt name : Stamp) (next heard : ℕ) (q : Packet) → Before w a g want (Bound attempt name next heard) → (t : Bool) →
       DecidedOk w a g want (Bound attempt name next heard) q now (decide on_next index o (cond t FlowOrder ForeignOrder) q)
-  flow-by attempt name next heard q b true fits no = bound-later attempt name next heard b
+  flow-by attempt name next heard q b true = λ fits un. bound-later attempt name next heard b
   flow-by attempt name next heard q b false = ignores w a g want (Bound attempt name next heard) q now IsForeign b
 
   hears-bound : (attempt name : Stamp) (next heard : ℕ) (q : Packet) → Before w a g want (Bound attempt name next heard) → Contains w.bag q → addressee q ≡ Some a → DecidedOk w a g want (Bound attempt name next heard) q now (decide on_next index o (order (Bound attempt name next heard) q) q)

@@ -141,7 +141,7 @@ row-quiet w n k t packets inv f q = record {
   stored = q.stored;
 }
 
-idle-right : (w : World) (a : AskerId) (g : History) (want : Origin) (p : Phase) → p ≡ Idle → PhaseRight w a g want p
+pub idle-right : (w : World) (a : AskerId) (g : History) (want : Origin) (p : Phase) → p ≡ Idle → PhaseRight w a g want p
 idle-right w a g want p e = subst (λ (x : Phase). PhaseRight w a g want x) (sym e) tt
 
 -- nothing changes

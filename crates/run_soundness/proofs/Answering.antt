@@ -29,7 +29,7 @@ use Rattle.shard_machine.specs.declared.call.ShardCall.TheVariants as call
 use Rattle.shard_machine.specs.Legal.{MayFollow}
 use Rattle.shard_machine.specs.Logs.{Made, boot, incarnation, made, live, with_change}
 use Rattle.shard_machine.specs.Views.{View, Effect, Copy, asker_or_new, asker_of, id_of, node_or, ask_start}
-use Rattle.shard_machine.specs.Answers.{Answers, addressee, copy_of_asker, decided_by, hears, follows}
+use Rattle.shard_machine.specs.Answers.{Answered, Answers, addressee, copy_of_asker, decided_by, hears, follows}
 use Rattle.shard_machine.specs.Steps.{Held, view_in, after_effect}
 use Rattle.run_soundness.specs.Shards.{Consumer, ShardState, IsGiven, sent_now, delivered}
 use Rattle.run_soundness.specs.Worlds.{World, shard_of, MayCall, IsAskedHere}
@@ -72,7 +72,10 @@ any-phase : (x : AskerId) (b c : ℕ) (o : Option AskerState) → (asker_or_new 
 any-phase x b c None = refl
 any-phase x b c (Some st) = refl
 
-same_Ok : (x y : Effect) → Ok x ≡ Ok y → x ≡ y
+abbrev answer_of : Effect → Answered
+answer_of x = Ok x
+
+same_Ok : (x y : Effect) → answer_of x ≡ answer_of y → x ≡ y
 same_Ok x y e = cc
 
 module _ (laws : Laws) (w : World) (n : List ℕ) (k : ℕ) (inv : Inv w) (loaded : (w.shard n k).held.loaded ≡ true) (called : ShardCall) (may : MayCall w.bag called n k) (does : Effect) (t : ShardState) (ans : AnswersOn (w.shard n k) called does t) where

@@ -172,7 +172,7 @@ none-stored s i = ap (λ (o : Option StreamAskers). get (of o) i) (get-empty (sl
     of None = empty
     of (Some found) = found
 
-new-asker : (h : Held) (a : AskerId) → h.askers ≡ empty → asker_at h a ≡ new_asker a h.image.boot
+pub new-asker : (h : Held) (a : AskerId) → h.askers ≡ empty → asker_at h a ≡ new_asker a h.image.boot
 new-asker h a e = ap (λ (o : Option AskerState). asker_or_new a h.image.boot o) (ap (λ (m : Askers). stored_at m a.stream a.index) e ∙ none-stored a.stream a.index)
 
 settled-future : (s : ShardState) (settled : List Rec) (d : Option Rec) → s.held.doubt ≡ d → IsSettled d settled → Future s (s.log ++ settled)

@@ -250,7 +250,7 @@ module _ (laws : Laws) (w : World) (n : List ℕ) (k : ℕ) (inv : Inv w) (loade
         }
 
     -- the stream that stands, by what is held of it
-    known-copies : (name : List ℕ) (known : NameFacts) (old : Made) → live_in v.image name ≡ Some known → live s.log name ≡ Some old → known.stream.config.copies ≡ old.history.config.copies
+    pub known-copies : (name : List ℕ) (known : NameFacts) (old : Made) → live_in v.image name ≡ Some known → live s.log name ≡ Some old → known.stream.config.copies ≡ old.history.config.copies
     known-copies name known old here stands =
         let q = live-known s.log v (before s ok loaded) name known here in
         let same : q.0 ≡ old = some_same (live s.log name) q.0 old q.1 stands in

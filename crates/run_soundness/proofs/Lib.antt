@@ -8,6 +8,7 @@ pub mod LogsLegal
 pub mod ShardsCopies
 pub mod ShardsSent
 pub mod ShardsPumps
+pub mod ShardsAskers
 pub mod ShardsRows
 pub mod ShardsKept
 pub mod ShardsSteps

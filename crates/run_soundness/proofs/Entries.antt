@@ -266,3 +266,11 @@ final-top low n (x ∷ xs) s r q = top-by low n x xs s (final xs) refl r.1 (cons
 -- each mark is at most how far the source has come
 pub mark-top : (i : ℕ) (g : History) (s : ℕ) → Rises (copy_start i g) (marks i g.entries) → Contains (marks i g.entries) s → s ≤ mark i g
 mark-top i g s r q = subst (λ (o : Option ℕ). s ≤ mark_or o (copy_start i g - 1)) (sym (last-final i g.entries)) (final-top (copy_start i g) (copy_start i g - 1) (marks i g.entries) s r q)
+
+-- what was never stored has no mark
+pub marks-empty : (i : ℕ) (es : List Entry) → stored i es ≡ [] → marks i es ≡ []
+marks-empty i es e = ap (map (λ (s : Stored). s.mark)) e
+
+pub last-none : (i : ℕ) (es : List Entry) → stored i es ≡ [] → last_mark i es ≡ None
+unfolding final
+last-none i es e = last-final i es ∙ ap final (marks-empty i es e)

@@ -18,3 +18,8 @@ pub mod Entries
 pub mod Phases
 pub mod ShardsSay
 pub mod ShardsAsked
+pub mod Wanting
+pub mod Deliveries
+pub mod Moves
+pub mod Following
+pub mod Hearing

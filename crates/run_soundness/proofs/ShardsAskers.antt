@@ -14,6 +14,7 @@ use Rattle.js_wire.specs.declared.packet.Packet.TheVariants.{Ask, Answer, Refuse
 use Rattle.stream_fold.specs.declared.config.Config.{Config}
 use Rattle.stream_fold.specs.declared.decision.Decision.{Decision}
 use Rattle.stream_fold.specs.declared.decision.Decision.TheVariants.{Store, Bind as Binds, Rebind, Skip, Ignore, AskAgain, Reply, Heard as Hears, Refused as IsRefused, Stop}
+use Rattle.stream_fold.specs.declared.entry.Entry.{Entry}
 use Rattle.stream_fold.specs.Facts.{StreamFacts}
 use Rattle.stream_fold.proofs.FactLemmas.{at_index, at_text}
 use Rattle.record_codec.specs.declared.records.Rec.{Rec}
@@ -26,6 +27,7 @@ use Rattle.shard_machine.specs.declared.call.ShardCall.TheVariants as call
 use Rattle.shard_machine.specs.Images.{LogImage, NameFacts, live_in, image_after}
 use Rattle.shard_machine.specs.Views.{View, Effect, Askers, StreamAskers, Copy, origins_of, askers_of, with_asker, all_idle, idle_askers, idle_under, asker_of, ask_of, with_asked, with_all_asked}
 use Rattle.shard_machine.specs.Answers.{addressee, copy_of_asker, decided_by, consumer_named}
+use Rattle.run_soundness.proofs.Following.{entry_by, phase_by, asks_again}
 use Rattle.run_soundness.proofs.Lists.{cons-cases, Contains-none, Contains-head, Contains-tail}
 use Rattle.run_soundness.proofs.ShardsCopies.{IsCopyOf}
 
@@ -197,44 +199,10 @@ copy-one i c d p q streams indexes =
 
 -- ---- the summary of an answer
 
--- the phase behind a decision
-abbrev pub phase_after : Decision → Packet → ℕ → Phase → Phase
-phase_after (Store e) packet now phase = took_phase now phase
-phase_after (Binds e) packet now phase = bound_phase (consumer_named packet) now phase
-phase_after Rebind packet now phase = bound_phase (consumer_named packet) now phase
-phase_after Skip packet now phase = took_phase now phase
-phase_after (Ignore why) packet now phase = phase
-phase_after (AskAgain why) packet now phase = phase
-phase_after Reply packet now phase = heard_phase now phase
-phase_after Hears packet now phase = heard_phase now phase
-phase_after IsRefused packet now phase = phase
-phase_after (Stop kept seen) packet now phase = IsStopped kept seen
-
--- the record of a decision in a stream
-abbrev pub decided_records : List ℕ → Decision → List Rec
-decided_records stream (Store e) = Of stream e ∷ []
-decided_records stream (Binds e) = Of stream e ∷ []
-decided_records stream Rebind = []
-decided_records stream Skip = []
-decided_records stream (Ignore why) = []
-decided_records stream (AskAgain why) = []
-decided_records stream Reply = []
-decided_records stream Hears = []
-decided_records stream IsRefused = []
-decided_records stream (Stop kept seen) = []
-
--- the decision asks again
-abbrev pub AsksAgain : Decision → Type 0
-AsksAgain (Store e) = ⊥
-AsksAgain (Binds e) = ⊥
-AsksAgain Rebind = ⊥
-AsksAgain Skip = ⊥
-AsksAgain (Ignore why) = ⊥
-AsksAgain (AskAgain why) = ⊤
-AsksAgain Reply = ⊥
-AsksAgain Hears = ⊥
-AsksAgain IsRefused = ⊥
-AsksAgain (Stop kept seen) = ⊥
+-- the record of an entry in a stream, where there is one
+abbrev pub written : List ℕ → Option Entry → List Rec
+written stream None = []
+written stream (Some e) = Of stream e ∷ []
 
 -- a copy asks
 pub record AskedRow (v : View) (does : Effect) (stream : List ℕ) (index : ℕ) : Type 0 where
@@ -257,21 +225,22 @@ pub record HeardRow (v : View) (called : ShardCall) (does : Effect) (stream : Li
   pub index_is : c.index ≡ index
   pub d : Decision
   pub d_is : d ≡ decided_by c.facts.config.copies v c now packet
-  pub stored : stored_at does.askers stream index ≡ Some (with_phase (asker_of v c) (phase_after d packet now (asker_of v c).phase))
-  pub records : does.records ≡ decided_records c.stream d
-  pub no_ask : AsksAgain d → ⊥
+  pub stored : stored_at does.askers stream index ≡ Some (with_phase (asker_of v c) (phase_by d packet now (asker_of v c).phase))
+  pub records : does.records ≡ written c.stream (entry_by d)
+  pub no_ask : asks_again d ≡ false
 
 -- what becomes of the asker of this stream and index
 pub data AskerRow (v : View) (called : ShardCall) (does : Effect) (stream : List ℕ) (index : ℕ) : Type 0 where
-  IsSame : stored_at does.askers stream index ≡ stored_at v.askers stream index → AskerRow v called does stream index
-  IsIdle : stored_at does.askers stream index ≡ option_map rest_of (stored_at v.askers stream index) → AskerRow v called does stream index
-  HasAsked : AskedRow v does stream index → AskerRow v called does stream index
-  HasHeard : HeardRow v called does stream index → AskerRow v called does stream index
+  RowSame : stored_at does.askers stream index ≡ stored_at v.askers stream index → AskerRow v called does stream index
+  RowIdle : stored_at does.askers stream index ≡ option_map rest_of (stored_at v.askers stream index) → AskerRow v called does stream index
+  RowAsked : AskedRow v does stream index → AskerRow v called does stream index
+  RowHeard : HeardRow v called does stream index → AskerRow v called does stream index
 
 -- an Ask is that of a copy that has asked
 pub record IsAskOf (v : View) (does : Effect) (p : Packet) : Type 0 where
   pub c : Copy
   pub is : p ≡ ask_of v c
+  pub copy : IsCopyOf (image_after v.image does.records) c
   pub asked : AskedRow v does c.stream c.index
 
 abbrev pub AskIs : View → Effect → Packet → Type 0
@@ -305,19 +274,19 @@ asks-nothing v does none p q = absurd (Contains-none p (subst (λ (l : List Pack
 
 -- the askers stay, and nothing asks
 pub askers-same : (v : View) (called : ShardCall) (does : Effect) → does.askers ≡ v.askers → MakesNone does → ((p : Packet) → Contains does.reply.packets p → AskIs v does p) → AskersRow v called does
-askers-same v called does same none asks = record { each = λ s i. IsSame (ap (λ (m : Askers). stored_at m s i) same); asks = asks; made = λ t c e k is n. absurd (none t c e) }
+askers-same v called does same none asks = record { each = λ s i. RowSame (ap (λ (m : Askers). stored_at m s i) same); asks = asks; made = λ t c e k is n. absurd (none t c e) }
 
 -- all are idle
 pub askers-idle : (v : View) (called : ShardCall) (does : Effect) → does.askers ≡ idle_askers v.askers → MakesNone does → ((p : Packet) → Contains does.reply.packets p → AskIs v does p) → AskersRow v called does
-askers-idle v called does idle none asks = record { each = λ s i. IsIdle (ap (λ (m : Askers). stored_at m s i) idle ∙ stored-idle v.askers s i); asks = asks; made = λ t c e k is n. absurd (none t c e) }
+askers-idle v called does idle none asks = record { each = λ s i. RowIdle (ap (λ (m : Askers). stored_at m s i) idle ∙ stored-idle v.askers s i); asks = asks; made = λ t c e k is n. absurd (none t c e) }
 
 -- those of one stream are idle
 pub askers-under : (v : View) (called : ShardCall) (does : Effect) (name : List ℕ) → does.askers ≡ idle_under name v.askers → MakesNone does → ((p : Packet) → Contains does.reply.packets p → AskIs v does p) → AskersRow v called does
 askers-under v called does name idle none asks = record {
   each = λ s i. let w = stored-idle_under name v.askers s i in
       elim w.1 [
-        | inl same ↦ IsIdle (ap (λ (m : Askers). stored_at m s i) idle ∙ w.0 same)
-        | inr other ↦ IsSame (ap (λ (m : Askers). stored_at m s i) idle ∙ other)
+        | inl same ↦ RowIdle (ap (λ (m : Askers). stored_at m s i) idle ∙ w.0 same)
+        | inr other ↦ RowSame (ap (λ (m : Askers). stored_at m s i) idle ∙ other)
       ];
   asks = asks;
   made = λ t c e k is n. absurd (none t c e);
@@ -334,25 +303,25 @@ module _ (v : View) (called : ShardCall) (does : Effect) (now : ℕ) (copies : L
   ask-of-one c q =
       let w = asked-each v now copies v.askers c q in
       let same : w.c ≡ c = copy-one (image_after v.image does.records) w.c c (are w.c w.among) (are c q) w.stream w.index in
-      record { c = w.c; is = ap (ask_of v) (sym same); asked = subst (λ (x : Copy). AskedRow v does x.stream x.index) (sym same) (asked-row c.stream c.index w) }
+      record { c = w.c; is = ap (ask_of v) (sym same); copy = are w.c w.among; asked = subst (λ (x : Copy). AskedRow v does x.stream x.index) (sym same) (asked-row c.stream c.index w) }
 
   pub has-asked : (c : Copy) → Contains copies c → AskedRow v does c.stream c.index
   has-asked c q = asked-row c.stream c.index (asked-each v now copies v.askers c q)
 
   pub askers-asked : ((p : Packet) → Contains does.reply.packets p → AskIs v does p) → ((time : ℕ) (config : Config) → does.records ≡ Create time config ∷ [] → (c : Copy) → IsCopyOf (image_after v.image does.records) c → c.stream ≡ config.name → Contains copies c) → AskersRow v called does
   askers-asked asks made = record {
-    each = λ s i. elim (asked-cases v now copies v.askers s i) [ inl w ↦ HasAsked (asked-row s i w) | inr same ↦ IsSame (ap (λ (m : Askers). stored_at m s i) askers ∙ same) ];
+    each = λ s i. elim (asked-cases v now copies v.askers s i) [ inl w ↦ RowAsked (asked-row s i w) | inr same ↦ RowSame (ap (λ (m : Askers). stored_at m s i) askers ∙ same) ];
     asks = asks;
     made = λ t c e k is n. has-asked k (made t c e k is n);
   }
 
 -- a copy follows its decision
 pub askers-heard : (v : View) (called : ShardCall) (does : Effect) (packet : Packet) (now : ℕ) (c : Copy) (d : Decision) → called ≡ call.Heard packet now → copy_of_asker v (addressee packet) ≡ Some c → d ≡ decided_by c.facts.config.copies v c now packet →
-    does.askers ≡ with_asker c.stream c.index (with_phase (asker_of v c) (phase_after d packet now (asker_of v c).phase)) v.askers → does.records ≡ decided_records c.stream d → (AsksAgain d → ⊥) → MakesNone does →
+    does.askers ≡ with_asker c.stream c.index (with_phase (asker_of v c) (phase_by d packet now (asker_of v c).phase)) v.askers → does.records ≡ written c.stream (entry_by d) → asks_again d ≡ false → MakesNone does →
     ((p : Packet) → Contains does.reply.packets p → AskIs v does p) → AskersRow v called does
 askers-heard v called does packet now c d is heard d_is askers records no_ask none asks = record {
-  each = λ s i. elim (with_asker-cases c.stream c.index (with_phase (asker_of v c) (phase_after d packet now (asker_of v c).phase)) v.askers s i) [
-    | inl own ↦ HasHeard (record {
+  each = λ s i. elim (with_asker-cases c.stream c.index (with_phase (asker_of v c) (phase_by d packet now (asker_of v c).phase)) v.askers s i) [
+    | inl own ↦ RowHeard (record {
       packet = packet;
       now = now;
       is = is;
@@ -363,13 +332,13 @@ askers-heard v called does packet now c d is heard d_is askers records no_ask no
       d = d;
       d_is = d_is;
       stored = ap (λ (m : Askers). stored_at m s i) askers
-          ∙ (ap (λ t. stored_at (with_asker c.stream c.index (with_phase (asker_of v c) (phase_after d packet now (asker_of v c).phase)) v.askers) t i) (sym own.0)
-          ∙ (ap (λ j. stored_at (with_asker c.stream c.index (with_phase (asker_of v c) (phase_after d packet now (asker_of v c).phase)) v.askers) c.stream j) (sym own.1)
-          ∙ with_asker-own c.stream c.index (with_phase (asker_of v c) (phase_after d packet now (asker_of v c).phase)) v.askers));
+          ∙ (ap (λ t. stored_at (with_asker c.stream c.index (with_phase (asker_of v c) (phase_by d packet now (asker_of v c).phase)) v.askers) t i) (sym own.0)
+          ∙ (ap (λ j. stored_at (with_asker c.stream c.index (with_phase (asker_of v c) (phase_by d packet now (asker_of v c).phase)) v.askers) c.stream j) (sym own.1)
+          ∙ with_asker-own c.stream c.index (with_phase (asker_of v c) (phase_by d packet now (asker_of v c).phase)) v.askers));
       records = records;
       no_ask = no_ask;
     })
-    | inr other ↦ IsSame (ap (λ (m : Askers). stored_at m s i) askers ∙ other)
+    | inr other ↦ RowSame (ap (λ (m : Askers). stored_at m s i) askers ∙ other)
   ];
   asks = asks;
   made = λ t k e x is2 n. absurd (none t k e);

@@ -24,3 +24,5 @@ pub mod Deliveries
 pub mod Moves
 pub mod Hearing
 pub mod Asked
+pub mod Recorded
+pub mod Heard

@@ -44,7 +44,7 @@ use Rattle.run_soundness.proofs.Logs.{live-push}
 use Rattle.run_soundness.proofs.LogsLegal.{live-ok, fit-keeps}
 use Rattle.run_soundness.proofs.Stamps.{given-on}
 use Rattle.run_soundness.proofs.ShardsCopies.{IsCopyOf, copy-stream, heard-by, heard-copy}
-use Rattle.run_soundness.proofs.ShardsAskers.{stored_at, rest_of, copy-one, AskedRow, HeardRow, AskerRow, RowSame, RowIdle, RowAsked, RowHeard, IsAskOf, AskIs, AskersRow}
+use Rattle.run_soundness.proofs.ShardsAskers.{stored_at, rest_of, written, copy-one, AskedRow, HeardRow, AskerRow, RowSame, RowIdle, RowAsked, RowHeard, IsAskOf, AskIs, AskersRow}
 use Rattle.run_soundness.proofs.ShardsRows.{option_list}
 use Rattle.run_soundness.proofs.ShardsKept.{ShardOk, AnswersOn, ShardOk-answers, row, next_log, log-is, held-image, boot-is}
 
@@ -90,7 +90,7 @@ pub record HasAsked (does : Effect) (new : ShardState) (a : AskerId) : Type 0 wh
   pub sent : Contains does.reply.packets (Ask a attempt (node_or a.node want.node) want.stream (ask_start (copy_of a g want)) (filters_of want))
 
 -- the asker follows what its copy decides about the packet of the call
-pub record HasHeard (mid : ShardState) (c : ShardCall) (new : ShardState) (a : AskerId) : Type 0 where
+pub record HasHeard (mid : ShardState) (c : ShardCall) (does : Effect) (new : ShardState) (a : AskerId) : Type 0 where
   pub packet : Packet
   pub now : ℕ
   pub is : c ≡ call.Heard packet now
@@ -102,12 +102,13 @@ pub record HasHeard (mid : ShardState) (c : ShardCall) (new : ShardState) (a : A
   pub d_is : d ≡ decided_by g.config.copies (view_in mid.held) (copy_of a g want) now packet
   pub no_ask : asks_again d ≡ false
   pub phase : (asker_at new.held a).phase ≡ phase_by d packet now (asker_at mid.held a).phase
+  pub records : does.records ≡ written a.stream (entry_by d)
 
 pub data AskerAfter (mid : ShardState) (c : ShardCall) (does : Effect) (new : ShardState) (a : AskerId) : Type 0 where
   Stays : asker_at new.held a ≡ asker_at mid.held a → AskerAfter mid c does new a
   Rests : (asker_at new.held a).phase ≡ Idle → AskerAfter mid c does new a
   Asks : HasAsked does new a → AskerAfter mid c does new a
-  Hears : HasHeard mid c new a → AskerAfter mid c does new a
+  Hears : HasHeard mid c does new a → AskerAfter mid c does new a
 
 -- ---- copies by the log
 
@@ -267,7 +268,7 @@ module _ (laws : Laws) (mid new : ShardState) (called : ShardCall) (does : Effec
       let indexed : id.index ≡ x.index = sym (eqb-true c.index id.index w.index) ∙ indexes in
       ap Some (λ i. record { node = nodes i; stream = streamed i; index = indexed i })
 
-  has-heard : (x : AskerId) → x.node ≡ mid.held.node → HeardRow v called does x.stream x.index → HasHeard mid called new x
+  has-heard : (x : AskerId) → x.node ≡ mid.held.node → HeardRow v called does x.stream x.index → HasHeard mid called does new x
   has-heard x node r =
       let h = copy-here mid x r.c ok node (heard-copy v (addressee r.packet) r.c r.heard) r.stream_is r.index_is in
       let same = asker-same x r.c node r.stream_is r.index_is in
@@ -285,6 +286,7 @@ module _ (laws : Laws) (mid new : ShardState) (called : ShardCall) (does : Effec
         phase =
             ap (λ (st : AskerState). st.phase) (at-is x (Some (with_phase (asker_of v r.c) (phase_by r.d r.packet r.now (asker_of v r.c).phase))) r.stored)
             ∙ ap (λ (st : AskerState). phase_by r.d r.packet r.now st.phase) same;
+        records = r.records ∙ ap (λ n. written n (entry_by r.d)) r.stream_is;
       }
 
   after-by : (x : AskerId) → x.node ≡ mid.held.node → AskerRow v called does x.stream x.index → AskerAfter mid called does new x

@@ -8,6 +8,8 @@ pub mod LogsLegal
 pub mod ShardsCopies
 pub mod ShardsSent
 pub mod ShardsPumps
+pub mod Following
+pub mod ShardsAskers
 pub mod ShardsRows
 pub mod ShardsKept
 pub mod ShardsSteps
@@ -20,5 +22,7 @@ pub mod ShardsAsked
 pub mod Wanting
 pub mod Deliveries
 pub mod Moves
-pub mod Following
 pub mod Hearing
+pub mod Asked
+pub mod Recorded
+pub mod Heard

@@ -35,7 +35,7 @@ use Rattle.shard_machine.specs.Legal.{HasFaultless}
 use Rattle.shard_machine.specs.Images.{LogImage, NameFacts, live_in, live_names}
 use Rattle.shard_machine.specs.Views.{View, Copy, origins_of, copies_from, copies_of, copies_under, all_copies, reached_by, reached, asker_of}
 use Rattle.shard_machine.specs.Answers.{copy_of_asker, decided_by}
-use Rattle.run_soundness.proofs.Lists.{cons-cases, Contains-none, flat-back, found}
+use Rattle.run_soundness.proofs.Lists.{cons-cases, Contains-none, Contains-head, Contains-tail, flat-back, found}
 
 -- ---- copies
 
@@ -95,6 +95,45 @@ under_by i name c (Some known) e q = copy_by i name c (Some known) e (λ k same.
 -- a copy of the streams of a name
 pub copy-under : (i : LogImage) (name : List ℕ) (c : Copy) → Contains (copies_under i name) c → IsCopyOf i c
 copy-under i name c q = under_by i name c (live_in i name) refl q
+
+-- it has the stream of that name
+pub copy-stream : (i : LogImage) (name : List ℕ) (c : Copy) → Contains (copies_under i name) c → c.stream ≡ name
+copy-stream i name c q = by (live_in i name) q
+  where
+    of : Option NameFacts → List Copy
+    of None = []
+    of (Some known) = copies_of name known.stream
+
+    by : (o : Option NameFacts) → Contains (of o) c → c.stream ≡ name
+    by None q = absurd (Contains-none c q)
+    by (Some known) q = (one-of name known.stream 0 (origins_of known.stream.config.copies) c q).stream
+
+-- each copy of a stream that stands is one of those
+has-copy : (name : List ℕ) (f : StreamFacts) (from k : ℕ) (origins : List Origin) (want : Origin) → slice_get origins k ≡ Some want → Contains (copies_from name f from origins) (record { stream = name; index = from + k; facts = f; want = want })
+has-copy name f from k [] want e = absurd (cc)
+has-copy name f from zero (o ∷ origins) want e =
+    let same : o ≡ want = cc in
+    subst (λ n. Contains (copies_from name f from (o ∷ origins)) (record { stream = name; index = n; facts = f; want = want })) (let z : from ≡ from + 0 = omega arith in z)
+    (subst (λ (x : Origin). Contains (copies_from name f from (o ∷ origins)) (record { stream = name; index = from; facts = f; want = x })) same (Contains-head (record { stream = name; index = from; facts = f; want = o }) (copies_from name f (from + 1) origins)))
+has-copy name f from (suc k) (o ∷ origins) want e =
+    subst (λ n. Contains (copies_from name f from (o ∷ origins)) (record { stream = name; index = n; facts = f; want = want })) (let z : from + 1 + k ≡ from + suc k = omega arith in z)
+    (Contains-tail (record { stream = name; index = from; facts = f; want = o }) (copies_from name f (from + 1) origins) _ (has-copy name f (from + 1) k origins want e))
+
+pub copy-among : (i : LogImage) (c : Copy) → IsCopyOf i c → Contains (copies_under i c.stream) c
+copy-among i c is = by (live_in i c.stream) is.here
+  where
+    of : Option NameFacts → List Copy
+    of None = []
+    of (Some known) = copies_of c.stream known.stream
+
+    by : (o : Option NameFacts) → o ≡ Some is.known → Contains (of o) c
+    by None e = absurd (cc)
+    by (Some known) e =
+        let same : is.known ≡ known = cc in
+        let facts : c.facts ≡ known.stream = is.facts ∙ ap (λ (k : NameFacts). k.stream) same in
+        subst (λ (f : StreamFacts). Contains (copies_from c.stream f 0 (origins_of f.config.copies)) c) facts
+        (subst (λ n. Contains (copies_from c.stream c.facts 0 (origins_of c.facts.config.copies)) (record { stream = c.stream; index = n; facts = c.facts; want = c.want })) (let z : 0 + c.index ≡ c.index = omega arith in z)
+        (has-copy c.stream c.facts 0 c.index (origins_of c.facts.config.copies) c.want is.origin))
 
 -- one of all copies
 pub copy-all : (i : LogImage) (c : Copy) → Contains (all_copies i) c → IsCopyOf i c

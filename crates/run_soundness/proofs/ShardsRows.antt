@@ -17,6 +17,7 @@ use Rattle.js_wire.specs.declared.packet.Packet.TheVariants.{Ask, Answer, Refuse
 use Rattle.stream_fold.specs.declared.config.Config.{Config}
 use Rattle.stream_fold.specs.declared.decision.Decision.{Decision}
 use Rattle.stream_fold.specs.declared.decision.Reason.TheVariants.{Foreign}
+use Rattle.stream_fold.specs.declared.decision.Why.{Why}
 use Rattle.stream_fold.specs.declared.decision.Decision.TheVariants.{Store, Bind as Binds, Rebind, Skip, Ignore, AskAgain, Reply, Heard as Hears, Refused as IsRefused, Stop}
 use Rattle.stream_fold.specs.declared.entry.Entry.{Entry}
 use Rattle.stream_fold.specs.declared.entry.Entry.TheVariants.{Put, Del, Purge, Expire, Limits}
@@ -53,8 +54,8 @@ use Rattle.shard_machine.specs.declared.reply.ShardRefusal.{ShardRefusal}
 use Rattle.shard_machine.specs.declared.reply.ShardRefusal.TheVariants as refusal
 use Rattle.shard_machine.specs.Logs.{Made, boot, incarnation, live}
 use Rattle.shard_machine.specs.Legal.{MayFollow}
-use Rattle.shard_machine.specs.Images.{LogImage, NameFacts, image, live_in, incarnation_in, live_names, known_of, MayFollowImage}
-use Rattle.shard_machine.specs.Views.{View, Effect, Askers, Copy, copies_under, asks_of, ask_of, reads, writes, sends, asker_of, idle_askers}
+use Rattle.shard_machine.specs.Images.{next, LogImage, NameFacts, image, live_in, incarnation_in, live_names, known_of, MayFollowImage}
+use Rattle.shard_machine.specs.Views.{View, Effect, Copy, copies_under, all_copies, asks_of, ask_of, reads, writes, sends, asker_of, idle_askers}
 use Rattle.shard_machine.specs.Answers.{Answered, Answers, Creates, creates, Updates, removes, reads_stream, publishes, publishes_by, takes_subject, transformed, deletes, purges, expires, below_or_all, gets, row_by, informs, serves, next_name, makes, makes_asked, makes_for, makes_consumer, is_earlier, consumer_start, for_stream, consumers_of, pumps, takes_token, takes_at, takes_reply, paused_for, reaches, copies_of_node, ticks, beats_of, due_copies, addressee, copy_of_asker, decided_by, hears, follows, with_record, flow_answer}
 use Rattle.shard_machine.specs.Steps.{Held, has_number}
 use Rattle.shard_machine.proofs.Images.{images-tell}
@@ -67,7 +68,8 @@ use Rattle.run_soundness.proofs.Logs.{NoBoot, Leaves, same_bytes}
 use Rattle.run_soundness.proofs.LogsLegal.{LogOk, MadeOk, MayStand, live-ok, made-rise, fit-bound, fit-keeps}
 use Rattle.run_soundness.proofs.Chains.{right-pump, answered-is, pump-own, pump-else, delivered-none, delivered-one}
 use Rattle.run_soundness.proofs.ShardsPumps.{IsSentBy, Said, pump-said, pump-put}
-use Rattle.run_soundness.proofs.ShardsCopies.{EntryOk, IsCopyOf, heard-copy, decided-ok}
+use Rattle.run_soundness.proofs.ShardsCopies.{EntryOk, IsCopyOf, copy-under, copy-all, copy-among, heard-copy, decided-ok}
+use Rattle.run_soundness.proofs.ShardsAskers.{AskersRow, AskIs, askers-same, askers-idle, askers-under, askers-asked, askers-heard, ask-of-one, asks-nothing, no-records}
 use Rattle.run_soundness.proofs.ShardsSent.{asks-none, beats-none, flow-none, append-none, flat-none}
 
 -- ---- what is said of a row
@@ -178,6 +180,7 @@ pub record Evolves (log : List Rec) (v : View) (called : ShardCall) (does : Effe
 pub record Row (log : List Rec) (v : View) (called : ShardCall) (does : Effect) : Type 0 where
   pub adds : Adds log does
   pub evolves : Evolves log v called does
+  pub askers : AskersRow v called does
 
 -- ---- consumers
 
@@ -556,13 +559,14 @@ module _ (laws : Laws) (log : List Rec) (v : View) (b : Before log v) (called : 
 
   -- a call that reads
   row-reads : (o : Outcome) → ((h : Held) → made_by o h ≡ []) → Row log v called (reads v o)
-  row-reads o makes = record { adds = adds-none (reads v o) refl; evolves = evolves-same log v called (reads v o) b.apart refl (quiet-none log v (reads v o) (omega arith) makes refl) }
+  row-reads o makes = record { adds = adds-none (reads v o) refl; evolves = evolves-same log v called (reads v o) b.apart refl (quiet-none log v (reads v o) (omega arith) makes refl); askers = askers-same v called (reads v o) refl (no-records (reads v o) refl) (asks-nothing v (reads v o) refl) }
 
   -- a call that writes an entry
   row-writes : (name : List ℕ) (known : NameFacts) (e : Entry) (o : Outcome) → ((h : Held) → made_by o h ≡ []) → live_in v.image name ≡ Some known → EntryOk known.stream e → Row log v called (writes v name known.stream e o)
   row-writes name known e o makes here ok = record {
     adds = adds-entry (writes v name known.stream e o) name known e refl here ok;
     evolves = evolves-same log v called (writes v name known.stream e o) b.apart refl (quiet-none log v (writes v name known.stream e o) (omega arith) makes refl);
+    askers = askers-same v called (writes v name known.stream e o) refl (λ t c x. cc) (asks-nothing v (writes v name known.stream e o) refl);
   }
 
   -- an entry that takes something, or none
@@ -571,10 +575,21 @@ module _ (laws : Laws) (log : List Rec) (v : View) (b : Before log v) (called : 
   row-takes does name known e count o true makes here ok q = subst (Row log v called) (sym (same_Ok does (reads v o) q)) (row-reads o makes)
   row-takes does name known e count o false makes here ok q = subst (Row log v called) (sym (same_Ok does (writes v name known.stream e o) q)) (row-writes name known e o makes here ok)
 
+  create-askers : (c : Config) (now : ℕ) → AskersRow v called (creates v c now)
+  create-askers c now =
+      let i : LogImage = next v.image (Create now c) in
+      let copies : List Copy = copies_under i c.name in
+      let are : (k : Copy) → Contains copies k → IsCopyOf i k = λ k q. copy-under i c.name k q in
+      let sent : (k : Copy) → Contains copies k → Contains (creates v c now).reply.packets (ask_of v k) = λ k q. map-on (ask_of v) copies k q in
+      askers-asked v called (creates v c now) now copies are refl sent
+      (λ p q. let w = map-back (ask_of v) copies p q in subst (AskIs v (creates v c now)) w.is (ask-of-one v called (creates v c now) now copies are refl sent w.of w.here))
+      (λ t config e k is n. let same : c ≡ config = cc in subst (λ name. Contains (copies_under i name) k) (n ∙ ap (λ (x : Config). x.name) (sym same)) (copy-among i k is))
+
   row-create : (c : Config) (now : ℕ) → config_fault c ≡ None → live_in v.image c.name ≡ None → has_number v.image (Create now c) ≡ true → Row log v called (creates v c now)
   row-create c now fault free number = record {
     adds = adds-create (creates v c now) c now refl refl fault free number;
     evolves = evolves-same log v called (creates v c now) b.apart refl (quiet-asks log v (creates v c now) (with_record v (Create now c)) (copies_under (with_record v (Create now c)).image c.name) (omega arith) (λ h. refl) refl);
+    askers = create-askers c now;
   }
 
   new_by : (does : Effect) (c : Config) (now : ℕ) (t : Bool) → ((r : Rec) → does.records ≡ r ∷ [] → has_number v.image r ≡ true) → config_fault c ≡ None → live_in v.image c.name ≡ None →
@@ -609,6 +624,7 @@ module _ (laws : Laws) (log : List Rec) (v : View) (b : Before log v) (called : 
       subst (Row log v called) (sym same) (record {
         adds = adds-remove _ name known refl refl f;
         evolves = evolves-filter log v called _ p b.apart refl (quiet-none log v _ (omega arith) (λ h. refl) refl);
+        askers = askers-under v called _ name refl (λ t c x. cc) (asks-nothing v _ refl);
       })
 
   -- ---- messages
@@ -707,13 +723,23 @@ module _ (laws : Laws) (log : List Rec) (v : View) (b : Before log v) (called : 
 
   -- ---- consumers
 
-  row-sends : (packets : List Packet) (consumers : List ConsumerState) (askers : Askers) → Evolves log v called (sends v packets consumers askers) → Row log v called (sends v packets consumers askers)
-  row-sends packets consumers askers e = record { adds = adds-none (sends v packets consumers askers) refl; evolves = e }
+  -- the askers stay
+  row-sends : (packets : List Packet) (consumers : List ConsumerState) → ((p : Packet) → Contains packets p → AskIs v (sends v packets consumers v.askers) p) → Evolves log v called (sends v packets consumers v.askers) → Row log v called (sends v packets consumers v.askers)
+  row-sends packets consumers asks e = record {
+    adds = adds-none (sends v packets consumers v.askers) refl;
+    evolves = e;
+    askers = askers-same v called (sends v packets consumers v.askers) refl (no-records (sends v packets consumers v.askers) refl) asks;
+  }
 
   row-makes : (now : ℕ) (known : NameFacts) (name : List ℕ) (what : Wanted) → live_in v.image name ≡ Some known → IsMadeFor log called (new_consumer (next_name v) name what now) → Row log v called (makes_consumer v now known name what)
   row-makes now known name what here for =
       let k = live-known log v b name known here in
-      record { adds = adds-none (makes_consumer v now known name what) refl; evolves = evolves-made log v called now known name what k.0 b k.1 (ap (λ (x : NameFacts). x.incarnation) (sym k.2)) for }
+      record {
+        adds = adds-none (makes_consumer v now known name what) refl;
+        evolves = evolves-made log v called now known name what k.0 b k.1 (ap (λ (x : NameFacts). x.incarnation) (sym k.2)) for;
+        askers = askers-same v called (makes_consumer v now known name what) refl (no-records (makes_consumer v now known name what) refl)
+            (λ p q. subst (AskIs v (makes_consumer v now known name what)) (Contains-one (Answer what.asker what.attempt (next_name v) known.incarnation what.start) p q) tt);
+      }
 
   make_by : (does : Effect) (now : ℕ) (known : NameFacts) (name : List ℕ) (what : Wanted) (t : Bool) (why : ShardRefusal) → live_in v.image name ≡ Some known → IsMadeFor log called (new_consumer (next_name v) name what now) → fine does ≡ cond t (Ok (makes_consumer v now known name what)) (Err why) → Row log v called does
   make_by does now known name what true why here for a = subst (Row log v called) (sym (same_Ok does _ a)) (row-makes now known name what here for)
@@ -750,12 +776,30 @@ module _ (laws : Laws) (log : List Rec) (v : View) (b : Before log v) (called : 
   makes_row does now (FlowAsk asker attempt origin stream consumer token) is a = absurd (cc)
   makes_row does now (FlowReply origin stream consumer token) is a = absurd (cc)
 
+  -- a pump sends no Ask
+  said-asks : (does : Effect) (c : ConsumerState) (first : ℕ) (rows : List Numbered) (p : Packet) → Said c first rows p → AskIs v does p
+  said-asks does c first rows (Ask asker attempt origin stream start filters) h = absurd h
+  said-asks does c first rows (Answer asker attempt consumer number start) h = tt
+  said-asks does c first rows (Refuse asker attempt code err_code) h = tt
+  said-asks does c first rows (Delivery asker attempt stream consumer number seq pending message) h = tt
+  said-asks does c first rows (Beat asker attempt origin stream consumer last_number last_seq stalled) h = tt
+  said-asks does c first rows (FlowAsk asker attempt origin stream consumer token) h = tt
+  said-asks does c first rows (FlowReply origin stream consumer token) h = tt
+
+  pump-asks : (does : Effect) (rows : List Numbered) (budget : ℕ) (name : List ℕ) (p : Packet) → Contains (flat_map (pump_packets rows budget) (consumers_of name v.consumers)) p → AskIs v does p
+  pump-asks does rows budget name p q =
+      let w = flat-back (pump_packets rows budget) (consumers_of name v.consumers) p q in
+      said-asks does w.of w.of.progress.count (pump_rows rows budget w.of) p (pump-said w.of rows budget p w.part)
+
   pumps_row : (does : Effect) (name : List ℕ) (budget now : ℕ) (o : Option NameFacts) → live_in v.image name ≡ o → fine does ≡ pumps v name budget now o → Row log v called does
   pumps_row does name budget now None here a = absurd (cc)
   pumps_row does name budget now (Some known) here a =
       let k = live-known log v b name known here in
       let rows : known.stream.rows ≡ kept k.0.history = ap (λ (x : NameFacts). x.stream.rows) (sym k.2) ∙ (facts-tell k.0.history).rows in
-      subst (Row log v called) (sym (same_Ok does _ a)) (row-sends _ _ _ (evolves-pumps laws log v called name k.0 known.stream.rows budget now b k.1 rows))
+      let packets : List Packet = flat_map (pump_packets known.stream.rows budget) (consumers_of name v.consumers) in
+      let new : List ConsumerState = for_stream name (pumped known.stream.rows budget now) v.consumers in
+      subst (Row log v called) (sym (same_Ok does (sends v packets new v.askers) a)) (row-sends packets new (λ p q. pump-asks (sends v packets new v.askers) known.stream.rows budget name p q)
+      (evolves-pumps laws log v called name k.0 known.stream.rows budget now b k.1 rows))
 
   -- an answer to a flow request
   same_sent : (t : Bool) (s : Sendings) (token : ℕ) → (cond t (record s { answered = token }) s).sent ≡ s.sent
@@ -777,7 +821,7 @@ module _ (laws : Laws) (log : List Rec) (v : View) (b : Before log v) (called : 
   tokens_row does stream consumer token (Some known) a =
       let f : ConsumerState → ConsumerState = λ c. token_if (reads_stream stream c) (same_stamp c.name consumer) token c in
       let new : List ConsumerState = for_stream stream (λ c. cond (same_stamp c.name consumer) (takes_token token c) c) v.consumers in
-      subst (Row log v called) (sym (same_Ok does (sends v [] new v.askers) a)) (row-sends [] new v.askers
+      subst (Row log v called) (sym (same_Ok does (sends v [] new v.askers) a)) (row-sends [] new (λ p q. absurd (Contains-none p q))
       (evolves-map log v called (sends v [] new v.askers) f b.apart refl (quiet-none log v _ (omega arith) (λ h. refl) refl) (record {
         name = λ c. (token-changes (reads_stream stream c) (same_stamp c.name consumer) token c).0;
         stream = λ c. (token-changes (reads_stream stream c) (same_stamp c.name consumer) token c).1;
@@ -813,14 +857,25 @@ module _ (laws : Laws) (log : List Rec) (v : View) (b : Before log v) (called : 
     right = λ c. (pause-changes (bytes_eq c.wanted.asker.node node) there c).3;
   }
 
+  reach-askers : (node : List ℕ) (now : ℕ) → AskersRow v called (reaches v node true now)
+  reach-askers node now =
+      let copies : List Copy = copies_of_node v node in
+      let are : (k : Copy) → Contains copies k → IsCopyOf v.image k = λ k q. copy-all v.image k (filter-was _ (all_copies v.image) k q) in
+      let sent : (k : Copy) → Contains copies k → Contains (reaches v node true now).reply.packets (ask_of v k) = λ k q. map-on (ask_of v) copies k q in
+      askers-asked v called (reaches v node true now) now copies are refl sent
+      (λ p q. let w = map-back (ask_of v) copies p q in subst (AskIs v (reaches v node true now)) w.is (ask-of-one v called (reaches v node true now) now copies are refl sent w.of w.here))
+      (λ t config e k is n. absurd (no-records (reaches v node true now) refl t config e))
+
   reaches_row : (node : List ℕ) (there : Bool) (now : ℕ) → Row log v called (reaches v node there now)
   reaches_row node true now = record {
     adds = adds-none (reaches v node true now) refl;
     evolves = evolves-map log v called (reaches v node true now) (paused_for node true) b.apart refl (quiet-asks log v (reaches v node true now) v (copies_of_node v node) (omega arith) (λ h. refl) refl) (paused-changes node true);
+    askers = reach-askers node now;
   }
   reaches_row node false now = record {
     adds = adds-none (reaches v node false now) refl;
     evolves = evolves-map log v called (reaches v node false now) (paused_for node false) b.apart refl (quiet-none log v _ (omega arith) (λ h. refl) refl) (paused-changes node false);
+    askers = askers-same v called (reaches v node false now) refl (no-records (reaches v node false now) refl) (asks-nothing v (reaches v node false now) refl);
   }
 
   beat_if : Bool → ℕ → ConsumerState → ConsumerState
@@ -840,6 +895,34 @@ module _ (laws : Laws) (log : List Rec) (v : View) (b : Before log v) (called : 
     right = λ c h s ok. (s, refl, laws.beats_right h c s now ok);
   }
 
+  -- a beat is no Ask
+  beat-asks : (does : Effect) (now : ℕ) (c : ConsumerState) (p : Packet) → Contains (beat_list_of (beat_at now c)) p → AskIs v does p
+  unfolding beat_list_of
+  beat-asks does now c p q = by (beats now c) q
+    where
+      by : (t : Bool) → Contains (beat_list_of (cond t (Some (beat c)) None)) p → AskIs v does p
+      by true r = subst (AskIs v does) (Contains-one (beat c) p r) tt
+      by false r = absurd (Contains-none p r)
+
+  beats-ask : (does : Effect) (now : ℕ) (name : List ℕ) (p : Packet) → Contains (beats_of v now name) p → AskIs v does p
+  unfolding beat_list_of
+  beats-ask does now name p q =
+      let w = flat-back (λ (c : ConsumerState). beat_list_of (beat_at now c)) (consumers_of name v.consumers) p q in
+      beat-asks does now w.of p w.part
+
+  tick-askers : (now : ℕ) → AskersRow v called (ticks v now)
+  tick-askers now =
+      let copies : List Copy = due_copies v now in
+      let beaten : List Packet = flat_map (beats_of v now) (live_names v.image) in
+      let are : (k : Copy) → Contains copies k → IsCopyOf v.image k = λ k q. copy-all v.image k (filter-was _ (all_copies v.image) k q) in
+      let sent : (k : Copy) → Contains copies k → Contains (ticks v now).reply.packets (ask_of v k) = λ k q. Contains-append_right beaten (asks_of v copies) (ask_of v k) (map-on (ask_of v) copies k q) in
+      askers-asked v called (ticks v now) now copies are refl sent
+      (λ p q. elim (Contains-append_cases beaten (asks_of v copies) p q) [
+        | inl one ↦ (let w = flat-back (beats_of v now) (live_names v.image) p one in beats-ask (ticks v now) now w.of p w.part)
+        | inr asked ↦ (let w = map-back (ask_of v) copies p asked in subst (AskIs v (ticks v now)) w.is (ask-of-one v called (ticks v now) now copies are refl sent w.of w.here))
+      ])
+      (λ t config e k is n. absurd (no-records (ticks v now) refl t config e))
+
   ticks_row : (now : ℕ) → Row log v called (ticks v now)
   ticks_row now = record {
     adds = adds-none (ticks v now) refl;
@@ -852,38 +935,80 @@ module _ (laws : Laws) (log : List Rec) (v : View) (b : Before log v) (called : 
         | inr asked ↦ asks-speak log v (ticks v now).reply.packets v (due_copies v now) p asked
       ];
     }) (beats-changes now);
+    askers = tick-askers now;
   }
 
   -- ---- packets for copies
 
-  quiet-row : (does : Effect) → does.records ≡ [] → does.consumers ≡ v.consumers → IsQuiet log v does → Row log v called does
-  quiet-row does none same q = record { adds = adds-none does none; evolves = evolves-same log v called does b.apart same q }
+  -- the answer to a flow request is no Ask
+  flow-asks : (does : Effect) (packet p : Packet) → Contains (flow_answer packet) p → AskIs v does p
+  flow-asks does (Ask asker attempt origin stream start filters) p q = absurd (Contains-none p q)
+  flow-asks does (Answer asker attempt consumer number start) p q = absurd (Contains-none p q)
+  flow-asks does (Refuse asker attempt code err_code) p q = absurd (Contains-none p q)
+  flow-asks does (Delivery asker attempt stream consumer number seq pending message) p q = absurd (Contains-none p q)
+  flow-asks does (Beat asker attempt origin stream consumer last_number last_seq None) p q = absurd (Contains-none p q)
+  flow-asks does (Beat asker attempt origin stream consumer last_number last_seq (Some token)) p q = subst (AskIs v does) (Contains-one (FlowReply origin stream consumer token) p q) tt
+  flow-asks does (FlowAsk asker attempt origin stream consumer token) p q = subst (AskIs v does) (Contains-one (FlowReply origin stream consumer token) p q) tt
+  flow-asks does (FlowReply origin stream consumer token) p q = absurd (Contains-none p q)
 
-  entry-row : (does : Effect) (c : Copy) (e : Entry) → does.records ≡ Of c.stream e ∷ [] → does.consumers ≡ v.consumers → IsQuiet log v does → IsCopyOf v.image c → EntryOk c.facts e → Row log v called does
-  entry-row does c e are same q is ok = record { adds = adds-entry does c.stream is.known e are is.here (subst (λ (f : StreamFacts). EntryOk f e) is.facts ok); evolves = evolves-same log v called does b.apart same q }
+  -- a copy decides about the packet of the call
+  record Decides (c : Copy) (now : ℕ) (packet : Packet) (d : Decision) : Type 0 where
+    is : called ≡ call.Heard packet now
+    heard : copy_of_asker v (addressee packet) ≡ Some c
+    copy : IsCopyOf v.image c
+    d_is : d ≡ decided_by c.facts.config.copies v c now packet
+    right : IfEntry (EntryOk c.facts) d
 
-  follows_row : (c : Copy) (now : ℕ) (packet : Packet) (phase : Phase) (d : Decision) → IsCopyOf v.image c → IfEntry (EntryOk c.facts) d → Row log v called (follows v c now packet phase d)
-  follows_row c now packet phase (Store e) is ok = entry-row (follows v c now packet phase (Store e)) c e refl refl (quiet-none log v _ (omega arith) (λ h. refl) refl) is ok
-  follows_row c now packet phase (Binds e) is ok = entry-row (follows v c now packet phase (Binds e)) c e refl refl (quiet-none log v _ (omega arith) (λ h. refl) refl) is ok
-  follows_row c now packet phase Rebind is ok = quiet-row (follows v c now packet phase Rebind) refl refl (quiet-none log v _ (omega arith) (λ h. refl) refl)
-  follows_row c now packet phase Skip is ok = quiet-row (follows v c now packet phase Skip) refl refl (quiet-none log v _ (omega arith) (λ h. refl) refl)
-  follows_row c now packet phase (Ignore why) is ok = row-reads (outcome.Heard (Ignore why)) (λ h. refl)
-  follows_row c now packet phase (AskAgain why) is ok = quiet-row (follows v c now packet phase (AskAgain why)) refl refl (quiet-asks log v (follows v c now packet phase (AskAgain why)) v (c ∷ []) (omega arith) (λ h. refl) refl)
-  follows_row c now packet phase Reply is ok = quiet-row (follows v c now packet phase Reply) refl refl (record { given = omega arith; makes = λ h. refl; none = λ n. flow-none n packet; speaks = λ p q. flow-speaks log v (flow_answer packet) packet p q })
-  follows_row c now packet phase Hears is ok = quiet-row (follows v c now packet phase Hears) refl refl (quiet-none log v _ (omega arith) (λ h. refl) refl)
-  follows_row c now packet phase IsRefused is ok = row-reads (outcome.Heard IsRefused) (λ h. refl)
-  follows_row c now packet phase (Stop kept seen) is ok = quiet-row (follows v c now packet phase (Stop kept seen)) refl refl (quiet-none log v _ (omega arith) (λ h. refl) refl)
+  quiet-row : (does : Effect) → does.records ≡ [] → does.consumers ≡ v.consumers → IsQuiet log v does → AskersRow v called does → Row log v called does
+  quiet-row does none same q askers = record { adds = adds-none does none; evolves = evolves-same log v called does b.apart same q; askers = askers }
 
-  hears_row : (now : ℕ) (packet : Packet) (o : Option Copy) → copy_of_asker v (addressee packet) ≡ o → Row log v called (hears v now packet o)
-  hears_row now packet None e = row-reads (outcome.Heard (Ignore Foreign)) (λ h. refl)
-  hears_row now packet (Some c) e =
-      let is = heard-copy v (addressee packet) c e in
-      follows_row c now packet (asker_of v c).phase (decided_by c.facts.config.copies v c now packet) is (decided-ok v c now packet is)
+  entry-row : (does : Effect) (c : Copy) (e : Entry) → does.records ≡ Of c.stream e ∷ [] → does.consumers ≡ v.consumers → IsQuiet log v does → IsCopyOf v.image c → EntryOk c.facts e → AskersRow v called does → Row log v called does
+  entry-row does c e are same q is ok askers = record {
+    adds = adds-entry does c.stream is.known e are is.here (subst (λ (f : StreamFacts). EntryOk f e) is.facts ok);
+    evolves = evolves-same log v called does b.apart same q;
+    askers = askers;
+  }
+
+  again-askers : (c : Copy) (now : ℕ) (packet : Packet) (phase : Phase) (why : Why) → IsCopyOf v.image c → AskersRow v called (follows v c now packet phase (AskAgain why))
+  again-askers c now packet phase why is =
+      let does : Effect = follows v c now packet phase (AskAgain why) in
+      let are : (k : Copy) → Contains (c ∷ []) k → IsCopyOf v.image k = λ k q. subst (IsCopyOf v.image) (Contains-one c k q) is in
+      let sent : (k : Copy) → Contains (c ∷ []) k → Contains does.reply.packets (ask_of v k) = λ k q. map-on (ask_of v) (c ∷ []) k q in
+      askers-asked v called does now (c ∷ []) are refl sent
+      (λ p q. let w = map-back (ask_of v) (c ∷ []) p q in subst (AskIs v does) w.is (ask-of-one v called does now (c ∷ []) are refl sent w.of w.here))
+      (λ t config e k same n. absurd (no-records does refl t config e))
+
+  follows_row : (c : Copy) (now : ℕ) (packet : Packet) (d : Decision) → Decides c now packet d → Row log v called (follows v c now packet (asker_of v c).phase d)
+  follows_row c now packet (Store e) w = entry-row (follows v c now packet (asker_of v c).phase (Store e)) c e refl refl (quiet-none log v _ (omega arith) (λ h. refl) refl) w.copy w.right
+      (askers-heard v called _ packet now c (Store e) w.is w.heard w.d_is refl refl refl (λ t k x. cc) (asks-nothing v _ refl))
+  follows_row c now packet (Binds e) w = entry-row (follows v c now packet (asker_of v c).phase (Binds e)) c e refl refl (quiet-none log v _ (omega arith) (λ h. refl) refl) w.copy w.right
+      (askers-heard v called _ packet now c (Binds e) w.is w.heard w.d_is refl refl refl (λ t k x. cc) (asks-nothing v _ refl))
+  follows_row c now packet Rebind w = quiet-row (follows v c now packet (asker_of v c).phase Rebind) refl refl (quiet-none log v _ (omega arith) (λ h. refl) refl)
+      (askers-heard v called _ packet now c Rebind w.is w.heard w.d_is refl refl refl (no-records (follows v c now packet (asker_of v c).phase Rebind) refl) (asks-nothing v _ refl))
+  follows_row c now packet Skip w = quiet-row (follows v c now packet (asker_of v c).phase Skip) refl refl (quiet-none log v _ (omega arith) (λ h. refl) refl)
+      (askers-heard v called _ packet now c Skip w.is w.heard w.d_is refl refl refl (no-records (follows v c now packet (asker_of v c).phase Skip) refl) (asks-nothing v _ refl))
+  follows_row c now packet (Ignore why) w = row-reads (outcome.Heard (Ignore why)) (λ h. refl)
+  follows_row c now packet (AskAgain why) w = quiet-row (follows v c now packet (asker_of v c).phase (AskAgain why)) refl refl (quiet-asks log v (follows v c now packet (asker_of v c).phase (AskAgain why)) v (c ∷ []) (omega arith) (λ h. refl) refl)
+      (again-askers c now packet (asker_of v c).phase why w.copy)
+  follows_row c now packet Reply w = quiet-row (follows v c now packet (asker_of v c).phase Reply) refl refl (record { given = omega arith; makes = λ h. refl; none = λ n. flow-none n packet; speaks = λ p q. flow-speaks log v (flow_answer packet) packet p q })
+      (askers-heard v called _ packet now c Reply w.is w.heard w.d_is refl refl refl (no-records (follows v c now packet (asker_of v c).phase Reply) refl) (λ p q. flow-asks (follows v c now packet (asker_of v c).phase Reply) packet p q))
+  follows_row c now packet Hears w = quiet-row (follows v c now packet (asker_of v c).phase Hears) refl refl (quiet-none log v _ (omega arith) (λ h. refl) refl)
+      (askers-heard v called _ packet now c Hears w.is w.heard w.d_is refl refl refl (no-records (follows v c now packet (asker_of v c).phase Hears) refl) (asks-nothing v _ refl))
+  follows_row c now packet IsRefused w = row-reads (outcome.Heard IsRefused) (λ h. refl)
+  follows_row c now packet (Stop kept seen) w = quiet-row (follows v c now packet (asker_of v c).phase (Stop kept seen)) refl refl (quiet-none log v _ (omega arith) (λ h. refl) refl)
+      (askers-heard v called _ packet now c (Stop kept seen) w.is w.heard w.d_is refl refl refl (no-records (follows v c now packet (asker_of v c).phase (Stop kept seen)) refl) (asks-nothing v _ refl))
+
+  hears_row : (now : ℕ) (packet : Packet) (o : Option Copy) → called ≡ call.Heard packet now → copy_of_asker v (addressee packet) ≡ o → Row log v called (hears v now packet o)
+  hears_row now packet None is e = row-reads (outcome.Heard (Ignore Foreign)) (λ h. refl)
+  hears_row now packet (Some c) is e =
+      let copy = heard-copy v (addressee packet) c e in
+      follows_row c now packet (decided_by c.facts.config.copies v c now packet) (record { is = is; heard = e; copy = copy; d_is = refl; right = decided-ok v c now packet copy })
 
   -- ---- the table
 
-  quiet-sends : (askers : Askers) → Row log v called (sends v [] v.consumers askers)
-  quiet-sends askers = quiet-row (sends v [] v.consumers askers) refl refl (quiet-none log v _ (omega arith) (λ h. refl) refl)
+  idle-row : Row log v called (sends v [] v.consumers (idle_askers v.askers))
+  idle-row = quiet-row (sends v [] v.consumers (idle_askers v.askers)) refl refl (quiet-none log v _ (omega arith) (λ h. refl) refl)
+      (askers-idle v called (sends v [] v.consumers (idle_askers v.askers)) refl (no-records (sends v [] v.consumers (idle_askers v.askers)) refl) (asks-nothing v (sends v [] v.consumers (idle_askers v.askers)) refl))
 
 module _ (laws : Laws) (log : List Rec) (v : View) (b : Before log v) where
   -- What is answered adds what may stand, and leaves what consumers have sent right.
@@ -902,6 +1027,6 @@ module _ (laws : Laws) (log : List Rec) (v : View) (b : Before log v) where
   row-of (call.Pump name budget now) does number a = pumps_row laws log v b (call.Pump name budget now) does name budget now (live_in v.image name) refl a
   row-of (call.FlowReply packet) does number a = replies_row laws log v b (call.FlowReply packet) does packet a
   row-of (call.Reach node there now) does number a = subst (Row log v (call.Reach node there now)) (sym (same_Ok laws log v b (call.Reach node there now) does _ a)) (reaches_row laws log v b (call.Reach node there now) node there now)
-  row-of (call.Heard packet now) does number a = subst (Row log v (call.Heard packet now)) (sym (same_Ok laws log v b (call.Heard packet now) does _ a)) (hears_row laws log v b (call.Heard packet now) now packet (copy_of_asker v (addressee packet)) refl)
+  row-of (call.Heard packet now) does number a = subst (Row log v (call.Heard packet now)) (sym (same_Ok laws log v b (call.Heard packet now) does _ a)) (hears_row laws log v b (call.Heard packet now) now packet (copy_of_asker v (addressee packet)) refl refl)
   row-of (call.Tick now) does number a = subst (Row log v (call.Tick now)) (sym (same_Ok laws log v b (call.Tick now) does _ a)) (ticks_row laws log v b (call.Tick now) now)
-  row-of call.LinkLost does number a = subst (Row log v call.LinkLost) (sym (same_Ok laws log v b call.LinkLost does _ a)) (quiet-sends laws log v b call.LinkLost (idle_askers v.askers))
+  row-of call.LinkLost does number a = subst (Row log v call.LinkLost) (sym (same_Ok laws log v b call.LinkLost does _ a)) (idle-row laws log v b call.LinkLost)

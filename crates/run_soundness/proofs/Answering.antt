@@ -40,7 +40,7 @@ use Rattle.run_soundness.proofs.Asked.AskerAfter.{Stays, Rests, Asks, Hears as H
 use Rattle.run_soundness.proofs.Following.{entry_by, phase_by, asks_again}
 use Rattle.run_soundness.proofs.Hearing.{HearOk, with_maybe}
 use Rattle.run_soundness.proofs.Invariant.{OneAsk, GivenIn, Future, HistOk, StreamsOk, StoredOk, IsHere, Inv, MadeNow, RowOk, PhaseAfter}
-use Rattle.run_soundness.proofs.Laws.{Laws}
+use Rattle.run_soundness.specs.Below.{Laws}
 use Rattle.run_soundness.proofs.Logs.{LiveAdds, LiveMakes, live-push, live-is, live-entry}
 use Rattle.run_soundness.proofs.LogsLegal.{LogOk, MadeOk, live-ok}
 use Rattle.run_soundness.proofs.Phases.{some_same, BothFit, PassesCopy, phase-passes}

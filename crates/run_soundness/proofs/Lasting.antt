@@ -8,7 +8,7 @@ use Rattle.run_soundness.specs.Shards.{ShardState}
 use Rattle.run_soundness.specs.Worlds.{World, OnlyNode, Calls, Crashes, Begins, Links, Event, Happens, Run}
 use Rattle.run_soundness.specs.Worlds.Event.{Call, Cut, Join, Crash, CrashWithin, Begin}
 use Rattle.run_soundness.proofs.Invariant.{Inv}
-use Rattle.run_soundness.proofs.Laws.{Laws}
+use Rattle.run_soundness.specs.Below.{Laws}
 use Rattle.run_soundness.proofs.Runs.{Inv-event}
 use Rattle.run_soundness.proofs.ShardsGrow.{ShardGrows, grows-same, grows-trans, grows-loads, grows-rests, grows-step}
 

@@ -30,7 +30,7 @@ use Rattle.run_soundness.specs.Shards.{Consumer, ShardState, IsGiven, LoadsOn, R
 use Rattle.run_soundness.specs.Worlds.{World, shard_of}
 use Rattle.run_soundness.specs.Soundness.{asker_at, names_consumer, SaysOf, IsCopy, PhaseRight}
 use Rattle.run_soundness.proofs.Invariant.{OneAsk, GivenIn, Future, StreamsOk, StoredOk, IsHere, Inv, MadeNow, RowOk, PhaseAfter}
-use Rattle.run_soundness.proofs.Laws.{Laws}
+use Rattle.run_soundness.specs.Below.{Laws}
 use Rattle.run_soundness.proofs.Lists.{Contains-none, Contains-one}
 use Rattle.run_soundness.proofs.Logs.{boot-push, hist-push}
 use Rattle.run_soundness.proofs.ShardsAskers.{rest_of, stored_at, stored-idle}

@@ -46,7 +46,7 @@ use Rattle.run_soundness.proofs.Entries.{bound-passes, stored-passes, put-passes
 use Rattle.run_soundness.proofs.Following.{entry_by, phase_by, asks_again}
 use Rattle.run_soundness.proofs.Hearing.{HearOk, Before, with_maybe, hears as hears-packet}
 use Rattle.run_soundness.proofs.Invariant.{Future, HistOk, StreamsOk, StoredOk, IsHere, Inv, MadeNow, RowOk, PhaseAfter}
-use Rattle.run_soundness.proofs.Laws.{Laws}
+use Rattle.run_soundness.specs.Below.{Laws}
 use Rattle.run_soundness.proofs.Logs.{AddsEntry, MakesHistory, LiveAdds, LiveMakes, hist-push, live-push, live-is, live-entry}
 use Rattle.run_soundness.proofs.LogsLegal.{LogOk, MadeOk, live-ok, fit-keeps}
 use Rattle.run_soundness.proofs.Phases.{some_same, BothFit, PassesCopy, phase-passes}

@@ -26,7 +26,7 @@ use Rattle.run_soundness.specs.Worlds.Event.{Call, Cut, Join, Crash, CrashWithin
 use Rattle.run_soundness.specs.Soundness.{asker_at, IsCopy, LogHolds, Sound}
 use Rattle.run_soundness.proofs.Answering.{row-answers}
 use Rattle.run_soundness.proofs.Invariant.{OneAsk, GivenIn, Future, StreamsOk, StoredOk, IsHere, Inv, RowIn, StepOk, Inv-step, row-same, RowOk, OneMoves, Inv-one, with_shard, with-here, with-else, with-bag, with-nodes}
-use Rattle.run_soundness.proofs.Laws.{Laws}
+use Rattle.run_soundness.specs.Below.{Laws}
 use Rattle.run_soundness.proofs.Lists.{Contains-none, Contains-head}
 use Rattle.run_soundness.proofs.LogsLegal.{LogOk, LogOk-push}
 use Rattle.run_soundness.proofs.Quiet.{AreQuiet, quiet-nil, quiet-refused, QuietOk, row-quiet, quiet-same, quiet-loads, quiet-rests, quiet-fails, ready-quiet, rest-phase, rest-attempts, idle-right, new-asker, none-stored}

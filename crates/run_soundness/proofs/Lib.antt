@@ -31,3 +31,4 @@ pub mod Rows
 pub mod Answering
 pub mod Runs
 pub mod Lasting
+pub mod Points

@@ -1,7 +1,7 @@
 //! Laws of the definitions that the contracts of this crate cite. Each function does nothing: what it
 //! ensures holds of all runs.
 ghost use Rattle.run_soundness.specs.Below.{Laws};
-ghost use Rattle.run_soundness.specs.Laws.{WorldsSound};
+ghost use Rattle.run_soundness.specs.Laws.{PointsNeverGoBack, WorldsSound};
 
 use push_consumer::laws::{longer_chains, right_chains, wanted_messages};
 use shard_machine::laws::{images_of_logs, legality_by_images, names_of_images, steps_of_logs};
@@ -30,6 +30,14 @@ fn laws_below()
 /// shards, cuts, joins, crashes, crashes within a call, and the making of a node.
 pub fn world_sound()
     ensures { WorldsSound }
+{
+    laws_below();
+}
+
+/// No stream that was ever made goes away or back, nor does the front of a mirror or the mark of a source,
+/// whatever happens, crashes included.
+pub fn points_never_go_back()
+    ensures { PointsNeverGoBack }
 {
     laws_below();
 }

@@ -32,3 +32,4 @@ pub mod Answering
 pub mod Runs
 pub mod Lasting
 pub mod Points
+pub mod Witness

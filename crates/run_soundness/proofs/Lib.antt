@@ -26,3 +26,5 @@ pub mod Hearing
 pub mod Asked
 pub mod Recorded
 pub mod Heard
+pub mod Survives
+pub mod Shown

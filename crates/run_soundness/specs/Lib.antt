@@ -1,3 +1,4 @@
 pub mod Shards
 pub mod Worlds
 pub mod Soundness
+pub mod Laws

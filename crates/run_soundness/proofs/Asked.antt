@@ -38,7 +38,7 @@ use Rattle.shard_machine.proofs.Images.{images-tell}
 use Rattle.run_soundness.specs.Shards.{ShardState, IsGiven}
 use Rattle.run_soundness.specs.Soundness.{IsCopy, asker_at, copy_of}
 use Rattle.run_soundness.proofs.Following.{entry_by, phase_by, asks_again}
-use Rattle.run_soundness.proofs.Laws.{Laws}
+use Rattle.run_soundness.specs.Below.{Laws}
 use Rattle.run_soundness.proofs.Lists.{cons-cases, Contains-none}
 use Rattle.run_soundness.proofs.Logs.{live-push}
 use Rattle.run_soundness.proofs.LogsLegal.{live-ok, fit-keeps}

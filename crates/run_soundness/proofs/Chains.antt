@@ -26,7 +26,7 @@ use Rattle.push_consumer.specs.Sends.{to_send}
 use Rattle.replica_ask.specs.Orders.{same_stamp}
 use Rattle.run_soundness.specs.Shards.{delivered_by, delivered}
 use Rattle.run_soundness.proofs.Histories.{GoesOn, GoesOn-is}
-use Rattle.run_soundness.proofs.Laws.{Laws}
+use Rattle.run_soundness.specs.Below.{Laws}
 use Rattle.run_soundness.proofs.Lists.{cons-cases, Contains-head, Contains-tail, Contains-none}
 use Rattle.run_soundness.proofs.Stamps.{Apart, same_stamp-refl, same_stamp-other}
 

@@ -22,7 +22,7 @@ use Rattle.stream_fold.specs.Facts.{StreamFacts, facts, mark_by_facts, front_by_
 use Rattle.stream_fold.specs.Fits.{AllFit}
 use Rattle.stream_fold.specs.Histories.{History, with_entry, either, put, put_by, last, number_put, mark_of, stands}
 use Rattle.stream_fold.specs.RowLists.{Rises}
-use Rattle.stream_fold.proofs.Folds.{last-push, bindings-push}
+use Rattle.stream_fold.proofs.Folds.{last-push, bindings-push, bindings-append}
 use Rattle.stream_fold.proofs.Growth.{put-append}
 use Rattle.stream_fold.proofs.FactLemmas.{facts-tell}
 use Rattle.shard_machine.specs.Views.{Copy, reached_by, reached, ask_start}
@@ -274,3 +274,23 @@ marks-empty i es e = ap (map (λ (s : Stored). s.mark)) e
 pub last-none : (i : ℕ) (es : List Entry) → stored i es ≡ [] → last_mark i es ≡ None
 unfolding final
 last-none i es e = last-final i es ∙ ap final (marks-empty i es e)
+
+-- ---- longer histories
+
+pub bound-append : (i : ℕ) (es xs : List Entry) → bound i (es ++ xs) ≡ either (bound i es) (bound i xs)
+bound-append i es xs = ap (binding_at i) (bindings-append es xs) ∙ binding-append i (bindings es) (bindings xs)
+
+pub stored-append : (i : ℕ) (es xs : List Entry) → stored i (es ++ xs) ≡ stored i es ++ stored i xs
+stored-append i [] xs = refl
+stored-append i (e ∷ es) xs = ap (λ (l : List Stored). stored_by i e ++ l) (stored-append i es xs) ∙ sym (append_assoc (stored_by i e) (stored i es) (stored i xs))
+
+pub marks-append : (i : ℕ) (es xs : List Entry) → marks i (es ++ xs) ≡ marks i es ++ marks i xs
+marks-append i es xs = ap (map (λ (s : Stored). s.mark)) (stored-append i es xs) ∙ map-append (λ (s : Stored). s.mark) (stored i es) (stored i xs)
+
+-- the last mark is one of the marks
+pub last-in : (i : ℕ) (es : List Entry) (x : ℕ) → last_mark i es ≡ Some x → Contains (marks i es) x
+last-in i es x e = final-in (marks i es) x (sym (last-final i es) ∙ e)
+
+-- a mark is never below the start
+pub mark-above : (low : ℕ) (xs : List ℕ) (s : ℕ) → Rises low xs → Contains xs s → low ≤ s
+mark-above low xs s r q = rises-above low xs s r q

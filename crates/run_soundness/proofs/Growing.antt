@@ -20,7 +20,7 @@ use Rattle.shard_machine.specs.Views.{node_or}
 use Rattle.run_soundness.specs.Shards.{Consumer, ShardState, IsRead}
 use Rattle.run_soundness.specs.Worlds.{World, shard_of}
 use Rattle.run_soundness.specs.Soundness.{SaysOf, IsAsked, before_next, or_zero, Holds, HoldsBy}
-use Rattle.run_soundness.proofs.Laws.{Laws}
+use Rattle.run_soundness.specs.Below.{Laws}
 use Rattle.run_soundness.proofs.Histories.{GoesOn, GoesOn-is, put-on}
 use Rattle.run_soundness.proofs.Logs.{StreamGrows}
 use Rattle.run_soundness.proofs.ShardsGrow.{Later, ShardGrows}

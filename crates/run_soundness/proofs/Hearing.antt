@@ -45,7 +45,7 @@ use Rattle.run_soundness.specs.Soundness.{IsToStore, HasStored, IsReading, Phase
 use Rattle.run_soundness.proofs.Deliveries.{delivered, rises-place}
 use Rattle.run_soundness.proofs.Entries.{bound-binds, bound-passes, other-index, point, reached-is}
 use Rattle.run_soundness.proofs.Following.{entry_by, phase_by, asks_again}
-use Rattle.run_soundness.proofs.Laws.{Laws}
+use Rattle.run_soundness.specs.Below.{Laws}
 use Rattle.run_soundness.proofs.LogsLegal.{log-rise}
 use Rattle.run_soundness.proofs.Moves.{StoresAs, NextMember, reading-stores, reading-skips, stores-mirror, stores-source, mirror-stores, source-stores, Answered, answered, rebinds, binds, holds-binds, stored-point, ask_start-free}
 use Rattle.run_soundness.proofs.Phases.{some_same, skips-of, BothFit}

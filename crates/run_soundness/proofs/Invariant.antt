@@ -26,7 +26,7 @@ use Rattle.run_soundness.specs.Shards.{Consumer, ShardState, IsGiven, IsRead, Is
 use Rattle.run_soundness.specs.Worlds.{World, shard_of, OnlyShard}
 use Rattle.run_soundness.specs.Soundness.{asker_at, names_consumer, SaysOf, IsAsked, BagRight, IsCopy, copy_of, PhaseRight, HoldsBy}
 use Rattle.run_soundness.proofs.Growing.{WorldGrows, asked-grows, says-grows, holds-grows}
-use Rattle.run_soundness.proofs.Laws.{Laws}
+use Rattle.run_soundness.specs.Below.{Laws}
 use Rattle.run_soundness.proofs.Phases.{phase-grows}
 use Rattle.run_soundness.proofs.ShardsGrow.{Later, Later-refl, ShardGrows, grows-same}
 use Rattle.run_soundness.proofs.ShardsKept.{ShardOk}

@@ -1,6 +1,5 @@
 pub mod Histories
 pub mod Logs
-pub mod Laws
 pub mod Lists
 pub mod Stamps
 pub mod Chains
@@ -26,5 +25,11 @@ pub mod Hearing
 pub mod Asked
 pub mod Recorded
 pub mod Heard
+pub mod Invariant
+pub mod Quiet
+pub mod Rows
+pub mod Answering
+pub mod Runs
+pub mod Lasting
 pub mod Survives
 pub mod Shown

@@ -13,7 +13,7 @@ use Rattle.record_codec.specs.declared.records.Rec.TheVariants.{Create, Of}
 use Rattle.shard_machine.specs.Logs.{Made, named_after, with_change, incarnation, made, live}
 use Rattle.shard_machine.specs.Legal.{MayFollow, IsLegal}
 use Rattle.shard_machine.proofs.LogSteps.{all_follow-snoc}
-use Rattle.run_soundness.proofs.Laws.{Laws}
+use Rattle.run_soundness.specs.Below.{Laws}
 use Rattle.run_soundness.proofs.Logs.{hist-push, AddsEntry, MakesHistory, live-is, new_made}
 
 -- ---- what holds of each entry after those before it

@@ -36,7 +36,7 @@ use Rattle.run_soundness.specs.Soundness.{before_next, or_zero, IsToStore, HasSt
 use Rattle.run_soundness.proofs.Entries.{either_none, bound-push, bound-binds, bound-passes, last_mark-push, last_mark-passes, stored-push, marks-store, marks-empty, last-none, put-passes, put-others, last-passes, start-passes, start-positive, start-is, point, reached-is, ask_start-is, asks_from, mark-top}
 use Rattle.run_soundness.proofs.Growing.{get-some}
 use Rattle.run_soundness.proofs.Deliveries.{place_of, rises-low, rises-order, get-lt, left-out}
-use Rattle.run_soundness.proofs.Laws.{Laws}
+use Rattle.run_soundness.specs.Below.{Laws}
 use Rattle.run_soundness.proofs.Lists.{Contains-one, Contains-none, Contains-head}
 use Rattle.run_soundness.proofs.Phases.{some_same, BothFit}
 use Rattle.run_soundness.proofs.Wanting.{mirror-origin}

@@ -30,7 +30,7 @@ use Rattle.run_soundness.specs.Shards.{Consumer, ShardState, IsGiven, LoadsOn, R
 use Rattle.run_soundness.specs.Worlds.{World, shard_of}
 use Rattle.run_soundness.specs.Soundness.{asker_at, names_consumer, SaysOf, IsCopy, PhaseRight}
 use Rattle.run_soundness.proofs.Invariant.{OneAsk, GivenIn, Future, StreamsOk, StoredOk, IsHere, Inv, MadeNow, RowOk, PhaseAfter}
-use Rattle.run_soundness.proofs.Laws.{Laws}
+use Rattle.run_soundness.specs.Below.{Laws}
 use Rattle.run_soundness.proofs.Lists.{Contains-none, Contains-one}
 use Rattle.run_soundness.proofs.Logs.{boot-push, hist-push}
 use Rattle.run_soundness.proofs.ShardsAskers.{rest_of, stored_at, stored-idle}
@@ -141,7 +141,7 @@ row-quiet w n k t packets inv f q = record {
   stored = q.stored;
 }
 
-idle-right : (w : World) (a : AskerId) (g : History) (want : Origin) (p : Phase) → p ≡ Idle → PhaseRight w a g want p
+pub idle-right : (w : World) (a : AskerId) (g : History) (want : Origin) (p : Phase) → p ≡ Idle → PhaseRight w a g want p
 idle-right w a g want p e = subst (λ (x : Phase). PhaseRight w a g want x) (sym e) tt
 
 -- nothing changes
@@ -172,7 +172,7 @@ none-stored s i = ap (λ (o : Option StreamAskers). get (of o) i) (get-empty (sl
     of None = empty
     of (Some found) = found
 
-new-asker : (h : Held) (a : AskerId) → h.askers ≡ empty → asker_at h a ≡ new_asker a h.image.boot
+pub new-asker : (h : Held) (a : AskerId) → h.askers ≡ empty → asker_at h a ≡ new_asker a h.image.boot
 new-asker h a e = ap (λ (o : Option AskerState). asker_or_new a h.image.boot o) (ap (λ (m : Askers). stored_at m a.stream a.index) e ∙ none-stored a.stream a.index)
 
 settled-future : (s : ShardState) (settled : List Rec) (d : Option Rec) → s.held.doubt ≡ d → IsSettled d settled → Future s (s.log ++ settled)

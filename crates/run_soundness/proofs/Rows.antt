@@ -46,11 +46,11 @@ use Rattle.run_soundness.proofs.Entries.{bound-passes, stored-passes, put-passes
 use Rattle.run_soundness.proofs.Following.{entry_by, phase_by, asks_again}
 use Rattle.run_soundness.proofs.Hearing.{HearOk, Before, with_maybe, hears as hears-packet}
 use Rattle.run_soundness.proofs.Invariant.{Future, HistOk, StreamsOk, StoredOk, IsHere, Inv, MadeNow, RowOk, PhaseAfter}
-use Rattle.run_soundness.proofs.Laws.{Laws}
+use Rattle.run_soundness.specs.Below.{Laws}
 use Rattle.run_soundness.proofs.Logs.{AddsEntry, MakesHistory, LiveAdds, LiveMakes, hist-push, live-push, live-is, live-entry}
 use Rattle.run_soundness.proofs.LogsLegal.{LogOk, MadeOk, live-ok, fit-keeps}
 use Rattle.run_soundness.proofs.Phases.{some_same, BothFit, PassesCopy, phase-passes}
-use Rattle.run_soundness.proofs.Quiet.{future-none, idle-right}
+use Rattle.run_soundness.proofs.Quiet.{future-none}
 use Rattle.run_soundness.proofs.Recorded.{IsClient, ClientWrites, HeardWrites, RecordsOk, records-ok}
 use Rattle.run_soundness.proofs.ShardsAsked.{came-asked}
 use Rattle.run_soundness.proofs.ShardsAskers.{stored_at, with_asker-own}
@@ -94,7 +94,7 @@ passing-by laws w n g e i want (Some to) both p num q = record { origin = q.orig
 passing-holds : Laws → (w : World) (n : List ℕ) (g : History) (e : Entry) (i : ℕ) (want : Origin) → BothFit g e → PassesCopy g.config.copies i e → (is_mirror g.config.copies ≡ false → NumbersFollow (with_entry g e).entries) → HoldsBy w n g i want (bound i g.entries) → HoldsBy w n (with_entry g e) i want (bound i (g.entries ++ e ∷ []))
 passing-holds laws w n g e i want both p num q = subst (λ (b : Option BoundTo). HoldsBy w n (with_entry g e) i want b) (sym (bound-passes i g.entries e p.passes)) (passing-by laws w n g e i want (bound i g.entries) both p num q)
 
-client-passes : (c : Copies) (e : Entry) (i : ℕ) → IsClient c e → PassesCopy c i e
+pub client-passes : (c : Copies) (e : Entry) (i : ℕ) → IsClient c e → PassesCopy c i e
 client-passes c e i k = record { passes = k.passes i; mirror = λ o is. (k.mirror o is, k.passes 0) }
 
 -- a stream that was just made has nothing to hold
@@ -108,24 +108,26 @@ all-last : (log rs : List Rec) (r : Rec) → MayAllFollow log (rs ++ r ∷ []) �
 all-last log [] r q = subst (λ (l : List Rec). MayFollow l r) (sym (append-nil log)) q.0
 all-last log (x ∷ rs) r q = subst (λ (l : List Rec). MayFollow l r) (append_assoc log (x ∷ []) rs) (all-last (log ++ x ∷ []) rs r q.1)
 
-follows-last : (log : List Rec) (r : Rec) → IsLegal (log ++ r ∷ []) → MayFollow log r
+pub follows-last : (log : List Rec) (r : Rec) → IsLegal (log ++ r ∷ []) → MayFollow log r
 follows-last log r q = all-last [] log r q
 
 -- ---- a copy that heard a packet
 
-record HeardEntry (s : ShardState) (called : ShardCall) (name : List ℕ) (e : Entry) : Type 0 where
-  a : AskerId
-  packet : Packet
-  now : ℕ
-  is : called ≡ call.Heard packet now
-  own : addressee packet ≡ Some a
-  g : History
-  want : Origin
-  copy : IsCopy s a g want
-  stream : a.stream ≡ name
-  entry : entry_by (decided_by g.config.copies (view_in s.held) (copy_of a g want) now packet) ≡ Some e
+pub record HeardEntry (s : ShardState) (called : ShardCall) (name : List ℕ) (e : Entry) : Type 0 where
+  pub a : AskerId
+  pub packet : Packet
+  pub now : ℕ
+  pub is : called ≡ call.Heard packet now
+  pub own : addressee packet ≡ Some a
+  pub g : History
+  pub want : Origin
+  pub copy : IsCopy s a g want
+  pub copies : (facts g).config.copies ≡ g.config.copies
+  pub found : copy_of_asker (view_in s.held) (addressee packet) ≡ Some (copy_of a g want)
+  pub stream : a.stream ≡ name
+  pub entry : entry_by (decided_by g.config.copies (view_in s.held) (copy_of a g want) now packet) ≡ Some e
 
-heard-entry : (s : ShardState) → ShardOk s → (called : ShardCall) (name : List ℕ) (e : Entry) → HeardWrites (view_in s.held) called name e → HeardEntry s called name e
+pub heard-entry : (s : ShardState) → ShardOk s → (called : ShardCall) (name : List ℕ) (e : Entry) → HeardWrites (view_in s.held) called name e → HeardEntry s called name e
 heard-entry s ok called name e h = at (addressee h.packet) refl h.found
   where
     at : (o : Option AskerId) → addressee h.packet ≡ o → copy_of_asker (view_in s.held) o ≡ Some h.c → HeardEntry s called name e
@@ -145,15 +147,17 @@ heard-entry s ok called name e h = at (addressee h.packet) refl h.found
           g = x.g;
           want = h.c.want;
           copy = x.copy;
+          copies = x.copies;
+          found = h.found ∙ ap Some x.is;
           stream = sym streams ∙ h.stream;
           entry = subst (λ (d : Decision). entry_by d ≡ Some e) (ap (λ (k : Copy). decided_by k.facts.config.copies v k h.now h.packet) x.is ∙ ap (λ k. decided_by k v (copy_of a x.g h.c.want) h.now h.packet) x.copies) h.entry;
         }
 
-or-phase : (x y : AskerId) (b : ℕ) (o : Option AskerState) → (asker_or_new x b o).phase ≡ (asker_or_new y b o).phase
+pub or-phase : (x y : AskerId) (b : ℕ) (o : Option AskerState) → (asker_or_new x b o).phase ≡ (asker_or_new y b o).phase
 or-phase x y b None = refl
 or-phase x y b (Some st) = refl
 
-entry-again : (d : Decision) (e : Entry) → entry_by d ≡ Some e → asks_again d ≡ false
+pub entry-again : (d : Decision) (e : Entry) → entry_by d ≡ Some e → asks_again d ≡ false
 entry-again (Store x) e q = refl
 entry-again (Binds x) e q = refl
 entry-again Rebind e q = refl
@@ -179,10 +183,10 @@ module _ (laws : Laws) (w : World) (n : List ℕ) (k : ℕ) (inv : Inv w) (loade
   stream-ok : (a : AskerId) (g : History) (want : Origin) → (c : IsCopy s a g want) → HistOk w n k a.stream c.stream.history
   stream-ok a g want c = inv.logs n k s.log (inl refl) a.stream (incarnation s.log a.stream) c.stream (live-is s.log a.stream c.stream c.stands).1
 
-  here-copy : (a : AskerId) (g : History) (want : Origin) → IsCopy s a g want → IsHere n k a
+  pub here-copy : (a : AskerId) (g : History) (want : Origin) → IsCopy s a g want → IsHere n k a
   here-copy a g want c = (c.node ∙ inv.nodes n k, (stream-ok a g want c).place)
 
-  old-phase : (a : AskerId) (g : History) (want : Origin) → IsCopy s a g want → PhaseRight w a g want (asker_at s.held a).phase
+  pub old-phase : (a : AskerId) (g : History) (want : Origin) → IsCopy s a g want → PhaseRight w a g want (asker_at s.held a).phase
   old-phase a g want c = (inv.askers n k).phase a (here-copy a g want c) g want c
 
   before-of : (a : AskerId) (g : History) (want : Origin) → IsCopy s a g want → Before w a g want (asker_of v (copy_of a g want)).phase
@@ -203,7 +207,7 @@ module _ (laws : Laws) (w : World) (n : List ℕ) (k : ℕ) (inv : Inv w) (loade
   -- ---- the streams that an answer leaves
 
   -- what a copy that heard a packet leaves of its stream and its asker
-  heard-ok : (called : ShardCall) → MayCall w.bag called n k → (a : AskerId) (packet : Packet) (now : ℕ) → called ≡ call.Heard packet now → addressee packet ≡ Some a → (g : History) (want : Origin) → IsCopy s a g want →
+  pub heard-ok : (called : ShardCall) → MayCall w.bag called n k → (a : AskerId) (packet : Packet) (now : ℕ) → called ≡ call.Heard packet now → addressee packet ≡ Some a → (g : History) (want : Origin) → IsCopy s a g want →
       asks_again (decided_by g.config.copies v (copy_of a g want) now packet) ≡ false → ((e : Entry) → entry_by (decided_by g.config.copies v (copy_of a g want) now packet) ≡ Some e → AllFit (with_entry g e)) →
       HearOk w a g want (entry_by (decided_by g.config.copies v (copy_of a g want) now packet)) (phase_by (decided_by g.config.copies v (copy_of a g want) now packet) packet now (asker_of v (copy_of a g want)).phase)
   heard-ok called may a packet now is own g want c no_ask fits =
@@ -246,7 +250,7 @@ module _ (laws : Laws) (w : World) (n : List ℕ) (k : ℕ) (inv : Inv w) (loade
         }
 
     -- the stream that stands, by what is held of it
-    known-copies : (name : List ℕ) (known : NameFacts) (old : Made) → live_in v.image name ≡ Some known → live s.log name ≡ Some old → known.stream.config.copies ≡ old.history.config.copies
+    pub known-copies : (name : List ℕ) (known : NameFacts) (old : Made) → live_in v.image name ≡ Some known → live s.log name ≡ Some old → known.stream.config.copies ≡ old.history.config.copies
     known-copies name known old here stands =
         let q = live-known s.log v (before s ok loaded) name known here in
         let same : q.0 ≡ old = some_same (live s.log name) q.0 old q.1 stands in

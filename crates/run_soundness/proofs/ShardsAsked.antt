@@ -16,7 +16,7 @@ use Rattle.shard_machine.specs.Views.{Effect}
 use Rattle.shard_machine.proofs.Images.{images-tell}
 use Rattle.run_soundness.specs.Shards.{Consumer, ShardState, IsRead, sent_now}
 use Rattle.run_soundness.proofs.Growing.{right-start-on}
-use Rattle.run_soundness.proofs.Laws.{Laws}
+use Rattle.run_soundness.specs.Below.{Laws}
 use Rattle.run_soundness.proofs.Logs.{Stands, live-is, hist-append}
 use Rattle.run_soundness.proofs.ShardsKept.{ShardOk, AnswersOn, ghost_of, row, next_log, held-image, came-from, stands-with, made_now}
 

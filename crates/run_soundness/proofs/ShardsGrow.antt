@@ -14,7 +14,7 @@ use Rattle.shard_machine.specs.declared.reply.ShardReply.{ShardReply}
 use Rattle.shard_machine.specs.Logs.{Made, made}
 use Rattle.shard_machine.specs.Views.{Effect}
 use Rattle.run_soundness.specs.Shards.{Consumer, ShardState, Moves, LoadsOn, RestsOn, delivered, standing_of, answered_now, sent_now}
-use Rattle.run_soundness.proofs.Laws.{Laws}
+use Rattle.run_soundness.specs.Below.{Laws}
 use Rattle.run_soundness.proofs.Logs.{StreamGrows, StreamGrows-trans, hist-append}
 use Rattle.run_soundness.proofs.LogsLegal.{log-rise}
 use Rattle.run_soundness.proofs.ShardsKept.{ShardOk, AnswersOn, ShardOk-answers, still-there}

@@ -17,7 +17,7 @@ use Rattle.shard_machine.specs.Answers.{Answers, next_name}
 use Rattle.shard_machine.specs.Steps.{Held, view_in, HaveRoom, has_number, needed, after_effect}
 use Rattle.shard_machine.proofs.Images.{image_after-append, images-tell}
 use Rattle.run_soundness.specs.Shards.{Consumer, ShardState, Distinct, IsGiven, IsRead, ReadsRight, delivered, standing_of, answered_now, sent_now, just_made, ever_after}
-use Rattle.run_soundness.proofs.Laws.{Laws}
+use Rattle.run_soundness.specs.Below.{Laws}
 use Rattle.run_soundness.proofs.Lists.{Contains-none, Contains-one, Contains-head, map-back, map-on, none-found}
 use Rattle.run_soundness.proofs.Stamps.{Apart, same_stamp-refl, standing-is, standing-of, Distinct-one, Distinct-map, Distinct-push, given-on}
 use Rattle.run_soundness.proofs.Logs.{Stands, Stands-push, Leaves, NoBoot, boot-other, hist-append, live-is, live-from}

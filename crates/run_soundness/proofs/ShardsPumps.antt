@@ -15,7 +15,7 @@ use Rattle.stream_fold.proofs.KeptRows.{EachRow-filter, kept-put}
 use Rattle.push_consumer.specs.Progress.{ConsumerState, Progress, is_spent, asks, delivered as more_delivered, requested, after_row, next_number, latest_token}
 use Rattle.push_consumer.specs.Pumps.{pump_packets, pump_rows, rows_sent, packets_sent, packets_of, flow_request}
 use Rattle.push_consumer.specs.Sends.{to_send}
-use Rattle.run_soundness.proofs.Laws.{Laws}
+use Rattle.run_soundness.specs.Below.{Laws}
 use Rattle.run_soundness.proofs.Lists.{cons-cases, Contains-none}
 
 -- ---- the deliveries of a pump

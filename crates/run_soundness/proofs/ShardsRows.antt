@@ -61,7 +61,7 @@ use Rattle.shard_machine.specs.Steps.{Held, has_number}
 use Rattle.shard_machine.proofs.Images.{images-tell}
 use Rattle.shard_machine.proofs.Legality.{tell-legal}
 use Rattle.run_soundness.specs.Shards.{delivered, standing_of, answered_now, just_made, made_by}
-use Rattle.run_soundness.proofs.Laws.{Laws}
+use Rattle.run_soundness.specs.Below.{Laws}
 use Rattle.run_soundness.proofs.Lists.{Contains-none, Contains-one, Contains-head, map-back, map-on, flat-back, filter-was, filter-pass}
 use Rattle.run_soundness.proofs.Stamps.{Apart, Apart-filter, Apart-push, Apart-map, standing-of}
 use Rattle.run_soundness.proofs.Logs.{NoBoot, Leaves, same_bytes}

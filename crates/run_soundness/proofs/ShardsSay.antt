@@ -22,7 +22,7 @@ use Rattle.shard_machine.specs.Steps.{view_in}
 use Rattle.shard_machine.proofs.Images.{images-tell}
 use Rattle.run_soundness.specs.Shards.{Consumer, ShardState, IsRead, delivered, sent_now}
 use Rattle.run_soundness.specs.Soundness.{SaysOf, names_consumer}
-use Rattle.run_soundness.proofs.Laws.{Laws}
+use Rattle.run_soundness.specs.Below.{Laws}
 use Rattle.run_soundness.proofs.Histories.{put-on}
 use Rattle.run_soundness.proofs.Logs.{Stands, live-is, live-from, hist-append}
 use Rattle.run_soundness.proofs.ShardsRows.{Speaks, IsAnswered, IsDelivered, IsBeat}

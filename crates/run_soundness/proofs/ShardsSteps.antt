@@ -23,7 +23,7 @@ use Rattle.shard_machine.specs.Answers.{Answers}
 use Rattle.shard_machine.specs.Steps.{Held, view_in, HaveRoom, has_room, needed, has_number, end_after, next_boot, may_open, IsSettled, IsReady, Succeeds, IsTurnedDown, LacksRoom, LacksRoomToLoad, Faults, FailsToLoad, StaysOrLoads, Refuses, RefusesWith, StepTo, refused_packets}
 use Rattle.shard_machine.proofs.Images.{images-tell}
 use Rattle.run_soundness.specs.Shards.{Consumer, ShardState, Distinct, IsGiven, ReadsRight, IsNewShard, Moves, LoadsOn, RestsOn, delivered, standing_of, answered_now, sent_now, made_by, ever_after}
-use Rattle.run_soundness.proofs.Laws.{Laws}
+use Rattle.run_soundness.specs.Below.{Laws}
 use Rattle.run_soundness.proofs.Lists.{Contains-none, Contains-head, Contains-tail}
 use Rattle.run_soundness.proofs.Stamps.{Apart, standing-is, Distinct-one, given-later, given-same}
 use Rattle.run_soundness.proofs.Logs.{boot-push, boot-other}

@@ -12,7 +12,7 @@ use Rattle.shard_machine.specs.declared.reply.ShardRefusal.TheVariants as refusa
 use Rattle.shard_machine.specs.Steps.{Held, Loads, Step, refused}
 use Rattle.shard_machine.specs.Views.{idle_askers}
 use Rattle.run_soundness.specs.Shards.{Consumer, ShardState, IsNewShard, Moves, LoadsOn, RestsOn, empty_held, ever_after}
-use Rattle.run_soundness.specs.Worlds.{World, Event, Call, Cut, Join, Crash, CrashWithin, Begin, MayCall, Calls, CrashesWithin, Crashes, Begins, IsLoadedAnew, Links, OnlyShard, OnlyNode, Happens}
+use Rattle.run_soundness.specs.Worlds.{World, Event, Call, Cut, Join, Crash, CrashWithin, Begin, MayCall, Calls, CrashesWithin, Crashes, Begins, Links, OnlyShard, OnlyNode, Happens}
 use Rattle.run_soundness.specs.Laws.{ShowsSame, TakesFrom, LeadsAlike, ShownIsEnough}
 
 same-parts : (a b : ShardState) → a.held ≡ b.held → a.log ≡ b.log → a.ever ≡ b.ever → a ≡ b
@@ -133,49 +133,23 @@ links-alike w shown other node there s x = record {
   nodes = x.nodes ∙ sym s.nodes;
 }
 
--- the shards of a new node have made no consumer
-node_test : List ℕ → List ℕ → ℕ → Bool
-node_test node n j = bytes_eq n node && ltb j 8
+loads-alike : (w shown other : World) (node : List ℕ) (k : ℕ) → ShowsSame w other → LoadsOn (w.shard node k) (shown.shard node k) → LoadsOn (other.shard node k) ((world_of never never-made shown other other.bag).shard node k)
+loads-alike w shown other node k s l = record {
+  records = l.records;
+  loads = subst (λ (h : Held). Loads h l.records (shown.shard node k).held) (sym (s.held node k)) l.loads;
+  log = l.log ∙ ap (λ (y : List Rec). y ++ l.records) (sym (s.log node k));
+  ever = stay-ever w shown other other.bag node k;
+}
 
-node-true : (node : List ℕ) (k : ℕ) → k < 8 → node_test node node k ≡ true
-unfolding node_test
-node-true node k lt = and-true (bytes_eq node node) (ltb k 8) ((bytes_decides node node).1 refl) (lt-ltb k 8 lt)
-
-node-is : (node n : List ℕ) (k : ℕ) → node_test node n k ≡ true → (n ≡ node) × (k < 8)
-unfolding node_test
-node-is node n k e = let p = and_parts (bytes_eq n node) (ltb k 8) e in ((bytes_decides n node).0 p.0, ltb-true k 8 p.1)
-
-module _ (w shown other : World) (s : ShowsSame w other) (node : List ℕ) (x : Begins w node shown) where
-  abbrev after_begin : World
-  after_begin = world_of (node_test node) never-made shown other other.bag
-
-  begun : (k : ℕ) → k < 8 → IsLoadedAnew node (after_begin.shard node k)
-  unfolding never-made
-  begun k lt =
-      let y = x.shards k lt in
-      let l = y.loads in
-      record {
-        empty = y.empty;
-        is_new = y.is_new;
-        loads = record { records = l.records; loads = l.loads; log = l.log; ever = ap (λ b. cond b [] (other.shard node k).ever) (node-true node k lt) ∙ sym y.is_new.ever };
-      }
-
-  begun-else : (n : List ℕ) (k : ℕ) (b : Bool) → node_test node n k ≡ b → ((n ≡ node) × (k < 8)) ⊎ (after_begin.shard n k ≡ other.shard n k)
-  begun-else n k true e = inl (node-is node n k e)
-  begun-else n k false e = elim (x.others n k) [
-    | inl here ↦ inl here
-    | inr same ↦ inr (else-same (node_test node) never-made w shown other other.bag n k s e same)
-  ]
-
-  begin-alike : Begins other node after_begin
-  begin-alike = record {
-    new_name = λ q. x.new_name (subst (λ (l : List (List ℕ)). Contains l node) s.nodes q);
-    shards = begun;
-    others = λ n k. begun-else n k (node_test node n k) refl;
-    bag = refl;
-    nodes = x.nodes ∙ ap (λ (l : List (List ℕ)). l ++ node ∷ []) (sym s.nodes);
-    joined = λ n. elim (x.joined n) [ inl here ↦ inl here | inr same ↦ inr (same ∙ sym (s.joined n)) ];
-  }
+begin-alike : (w shown other : World) (node : List ℕ) → ShowsSame w other → Begins w node shown → Begins other node (world_of never never-made shown other other.bag)
+begin-alike w shown other node s x = record {
+  new_name = λ q. x.new_name (subst (λ (l : List (List ℕ)). Contains l node) s.nodes q);
+  shards = λ k lt. loads-alike w shown other node k s (x.shards k lt);
+  others = λ n k. elim (x.others n k) [ inl here ↦ inl here | inr same ↦ inr (stay-else w shown other other.bag n k s same) ];
+  bag = refl;
+  nodes = x.nodes ∙ ap (λ (l : List (List ℕ)). l ++ node ∷ []) (sym s.nodes);
+  joined = λ n. elim (x.joined n) [ inl here ↦ inl here | inr same ↦ inr (same ∙ sym (s.joined n)) ];
+}
 
 -- ---- the law
 
@@ -189,4 +163,4 @@ shown-is-enough w next other (CrashWithin node k c) h s t = record {
   happens = record { doubted = h.doubted; calls = calls-alike w next other s node k c (refused c refusal.DiskFault h.doubted) h.calls t };
   same = shows-world (here_test node k) (made_there w next other s node k c (refused c refusal.DiskFault h.doubted) h.calls t) next other (other.bag ++ (refused c refusal.DiskFault h.doubted).packets);
 }
-shown-is-enough w next other (Begin node) h s t = record { next = after_begin w next other s node h; happens = begin-alike w next other s node h; same = shows-world (node_test node) never-made next other other.bag }
+shown-is-enough w next other (Begin node) h s t = record { next = world_of never never-made next other other.bag; happens = begin-alike w next other node s h; same = shows-world never never-made next other other.bag }

@@ -31,102 +31,38 @@ use Rattle.replica_ask.specs.declared.phase.Phase.{Phase}
 use Rattle.shard_machine.specs.declared.call.ShardCall.{ShardCall}
 use Rattle.shard_machine.specs.declared.call.ShardCall.TheVariants as call
 use Rattle.shard_machine.specs.declared.call.Which.{Which}
+use Rattle.shard_machine.specs.declared.reply.ShardRefusal.{ShardRefusal}
 use Rattle.shard_machine.specs.declared.reply.ShardRefusal.TheVariants as refusal
 use Rattle.shard_machine.specs.declared.reply.Outcome.{Outcome}
 use Rattle.shard_machine.specs.declared.reply.Outcome.TheVariants as outcome
 use Rattle.shard_machine.specs.declared.reply.ShardReply.{ShardReply}
+use Rattle.shard_machine.specs.Logs.{Made, with_change, incarnation, made, live}
 use Rattle.shard_machine.specs.Images.{NameFacts, live_in, live_names}
 use Rattle.shard_machine.specs.Views.{View, Effect, Copy, reads, writes, asker_of}
 use Rattle.shard_machine.specs.Answers.{Answered, Answers, Creates, creates, Updates, removes, reads_stream, serves, is_earlier, consumer_start, makes_consumer, ticks, publishes, publishes_by, takes_subject, transformed, deletes, purges, expires, below_or_all, gets, row_by, informs, makes, makes_asked, makes_for, pumps, takes_at, takes_reply, reaches, hears, follows, addressee, copy_of_asker, decided_by}
-use Rattle.shard_machine.specs.Steps.{Held, Succeeds, StepTo, view_in}
-use Rattle.run_soundness.specs.Shards.{ShardState, Moves, LoadsOn, RestsOn}
-use Rattle.run_soundness.specs.Worlds.{World, Event, Call, Cut, Join, Crash, CrashWithin, Begin, Calls, Crashes, Begins, Happens, Run}
-use Rattle.run_soundness.specs.Laws.{IsAccepted, IsFor, WritesIn, IsKept, AcknowledgedSurvives}
-use Rattle.run_soundness.proofs.Lists.{Contains-head}
+use Rattle.shard_machine.specs.Steps.{Held, IsReady, IsSettled, LacksRoom, LacksRoomToLoad, StaysOrLoads, Faults, FailsToLoad, Refuses, StepTo, view_in}
+use Rattle.run_soundness.specs.Shards.{ShardState, Moves}
+use Rattle.run_soundness.specs.Worlds.{World}
+use Rattle.run_soundness.specs.Worlds.Event.{Call}
+use Rattle.run_soundness.specs.Below.{Laws}
+use Rattle.run_soundness.specs.Laws.{IsAccepted, stream_of, written_to, Survives, OnlyLoads, Lasts, AcknowledgedSurvives}
+use Rattle.run_soundness.proofs.Invariant.{Inv}
+use Rattle.run_soundness.proofs.Lasting.{run-grows}
+use Rattle.run_soundness.proofs.Logs.{StreamGrows, live-is, live-entry}
+use Rattle.run_soundness.proofs.LogsLegal.{MayStand}
+use Rattle.run_soundness.proofs.Runs.{Inv-event, Inv-run, Inv-empty}
+use Rattle.run_soundness.proofs.ShardsGrow.{ShardGrows}
+use Rattle.run_soundness.proofs.ShardsKept.{ShardOk, AnswersOn, row}
+use Rattle.run_soundness.proofs.ShardsRows.{option_list}
+use Rattle.run_soundness.proofs.ShardsSteps.{Came, Fine, Down, Fault, ShardOk-ready, moves-came}
 use Rattle.run_soundness.proofs.ShardsCopies.{copy-stream, heard-by}
-
--- ---- an accepted step
-
-accepted : (o : Outcome) (old : Held) (c : ShardCall) (reply : ShardReply) (records : List Rec) (new : Held) → IsAccepted o → StepTo o old c reply records new → Succeeds old c reply records new
-accepted (outcome.Made fresh) old c reply records new taken s = s
-accepted outcome.Updated old c reply records new taken s = s
-accepted outcome.Removed old c reply records new taken s = s
-accepted (outcome.Stored seq) old c reply records new taken s = s
-accepted (outcome.Duplicate seq) old c reply records new taken s = s
-accepted outcome.Deleted old c reply records new taken s = s
-accepted (outcome.Purged count) old c reply records new taken s = s
-accepted (outcome.Expired count) old c reply records new taken s = s
-accepted (outcome.Found row) old c reply records new taken s = s
-accepted (outcome.Info facts) old c reply records new taken s = s
-accepted (outcome.Listed names) old c reply records new taken s = s
-accepted (outcome.Consumer name) old c reply records new taken s = s
-accepted outcome.Sent old c reply records new taken s = s
-accepted (outcome.Heard decision) old c reply records new taken s = s
-accepted (outcome.Refused why) old c reply records new taken s = absurd taken
-
--- ---- logs only grow
-
--- the node is there, and the log of its shard begins so
-record Goes (w : World) (node : List ℕ) (k : ℕ) (log : List Rec) : Type 0 where
-  there : Contains w.nodes node
-  more : List Rec
-  is : (w.shard node k).log ≡ log ++ more
-
-goes-on : (log more rest a b : List Rec) → a ≡ log ++ more → b ≡ a ++ rest → b ≡ log ++ (more ++ rest)
-goes-on log more rest a b e f = f ∙ (ap (λ (l : List Rec). l ++ rest) e ∙ append_assoc log more rest)
-
-by-shard : (w v : World) (node : List ℕ) (k : ℕ) (log rest : List Rec) → Contains v.nodes node → (v.shard node k).log ≡ (w.shard node k).log ++ rest → Goes w node k log → Goes v node k log
-by-shard w v node k log rest there e g = record { there = there; more = g.more ++ rest; is = goes-on log g.more rest (w.shard node k).log (v.shard node k).log g.is e }
-
-by-same : (w v : World) (node : List ℕ) (k : ℕ) (log : List Rec) → Contains v.nodes node → v.shard node k ≡ w.shard node k → Goes w node k log → Goes v node k log
-by-same w v node k log there e g = record { there = there; more = g.more; is = ap (λ (s : ShardState). s.log) e ∙ g.is }
-
-goes-calls : (w v : World) (n : List ℕ) (j : ℕ) (c : ShardCall) (reply : ShardReply) (node : List ℕ) (k : ℕ) (log : List Rec) → Calls w n j c reply v → Goes w node k log → Goes v node k log
-goes-calls w v n j c reply node k log x g =
-    let there : Contains v.nodes node = subst (λ (l : List (List ℕ)). Contains l node) (sym x.nodes) g.there in
-    elim (x.others node k) [
-      | inl here ↦ by-shard w v node k log x.moves.records there
-          (subst (λ m. (v.shard m k).log ≡ (w.shard m k).log ++ x.moves.records) (sym here.0) (subst (λ i. (v.shard n i).log ≡ (w.shard n i).log ++ x.moves.records) (sym here.1) x.moves.log)) g
-      | inr same ↦ by-same w v node k log there same g
-    ]
-
-goes-crash : (w v : World) (n node : List ℕ) (k : ℕ) (log : List Rec) → Crashes w n v → Goes w node k log → Goes v node k log
-goes-crash w v n node k log x g =
-    let there : Contains v.nodes node = subst (λ (l : List (List ℕ)). Contains l node) (sym x.nodes) g.there in
-    elim (x.others node k) [
-      | inl here ↦ (elim (x.shards k here.1) [
-        | inl loads ↦ by-shard w v node k log loads.records there (subst (λ m. (v.shard m k).log ≡ (w.shard m k).log ++ loads.records) (sym here.0) loads.log) g
-        | inr rests ↦ by-shard w v node k log [] there (subst (λ m. (v.shard m k).log ≡ (w.shard m k).log ++ []) (sym here.0) (rests.log ∙ sym (append-nil (w.shard n k).log))) g
-      ])
-      | inr same ↦ by-same w v node k log there same g
-    ]
-
-goes-begin : (w v : World) (n node : List ℕ) (k : ℕ) (log : List Rec) → Begins w n v → Goes w node k log → Goes v node k log
-goes-begin w v n node k log x g =
-    let there : Contains v.nodes node = subst (λ (l : List (List ℕ)). Contains l node) (sym x.nodes) (Contains-append_left w.nodes (n ∷ []) node g.there) in
-    elim (x.others node k) [
-      | inl here ↦ absurd (x.new_name (subst (Contains w.nodes) here.0 g.there))
-      | inr same ↦ by-same w v node k log there same g
-    ]
-
-goes-event : (w : World) (e : Event) (v : World) (node : List ℕ) (k : ℕ) (log : List Rec) → Happens w e v → Goes w node k log → Goes v node k log
-goes-event w (Call n j c reply) v node k log x g = goes-calls w v n j c reply node k log x g
-goes-event w (Cut n) v node k log x g = by-same w v node k log (subst (λ (l : List (List ℕ)). Contains l node) (sym x.nodes) g.there) (x.shards node k) g
-goes-event w (Join n) v node k log x g = by-same w v node k log (subst (λ (l : List (List ℕ)). Contains l node) (sym x.nodes) g.there) (x.shards node k) g
-goes-event w (Crash n) v node k log x g = goes-crash w v n node k log x g
-goes-event w (CrashWithin n j c) v node k log x g = goes-calls w v n j c _ node k log x.calls g
-goes-event w (Begin n) v node k log x g = goes-begin w v n node k log x g
-
-goes-run : (w : World) (es : List Event) (v : World) (node : List ℕ) (k : ℕ) (log : List Rec) → Run w es v → Goes w node k log → Goes v node k log
-goes-run w [] v node k log r g = subst (λ (x : World). Goes x node k log) (sym r) g
-goes-run w (e ∷ es) v node k log r g = goes-run r.0 es v node k log r.2 (goes-event w e r.0 node k log r.1 g)
 
 -- ---- the entry of a reply is the record of the answer
 
 -- the entry is the one record of the answer, in a stream that the call may write in
 record Wrote (c : ShardCall) (does : Effect) (e : Entry) : Type 0 where
   name : List ℕ
-  writes : WritesIn name c
+  writes : written_to c ≡ Some name
   record_is : does.records ≡ Of name e ∷ []
 
 -- what is said of an answer with an entry
@@ -137,14 +73,14 @@ Tells c (Err why) = Unit {0}
 tells-none : (c : ShardCall) (does : Effect) → does.reply.entry ≡ None → Tells c (Ok does)
 tells-none c does none e q = absurd (let z : None ≡ Some e = sym none ∙ q in cc)
 
-tells-entry : (c : ShardCall) (does : Effect) (name : List ℕ) (x : Entry) → WritesIn name c → does.reply.entry ≡ Some x → does.records ≡ Of name x ∷ [] → Tells c (Ok does)
+tells-entry : (c : ShardCall) (does : Effect) (name : List ℕ) (x : Entry) → written_to c ≡ Some name → does.reply.entry ≡ Some x → does.records ≡ Of name x ∷ [] → Tells c (Ok does)
 tells-entry c does name x w is records e q = record { name = name; writes = w; record_is = records ∙ ap (λ y. Of name y ∷ []) (let z : Some x ≡ Some e = sym is ∙ q in cc) }
 
 tells-if : (c : ShardCall) (t : Bool) (x y : Answered) → Tells c x → Tells c y → Tells c (cond t x y)
 tells-if c true x y p q = p
 tells-if c false x y p q = q
 
-tells-decided : (c : ShardCall) (v : View) (k : Copy) (now : ℕ) (packet : Packet) (phase : Phase) (d : Decision) → WritesIn k.stream c → Tells c (Ok (follows v k now packet phase d))
+tells-decided : (c : ShardCall) (v : View) (k : Copy) (now : ℕ) (packet : Packet) (phase : Phase) (d : Decision) → written_to c ≡ Some k.stream → Tells c (Ok (follows v k now packet phase d))
 tells-decided c v k now packet phase (Store e) w = tells-entry c (follows v k now packet phase (Store e)) k.stream e w refl refl
 tells-decided c v k now packet phase (Binds e) w = tells-entry c (follows v k now packet phase (Binds e)) k.stream e w refl refl
 tells-decided c v k now packet phase Rebind w = tells-none c (follows v k now packet phase Rebind) refl
@@ -156,9 +92,9 @@ tells-decided c v k now packet phase Hears w = tells-none c (follows v k now pac
 tells-decided c v k now packet phase IsRefused w = tells-none c (follows v k now packet phase IsRefused) refl
 tells-decided c v k now packet phase (Stop kept seen) w = tells-none c (follows v k now packet phase (Stop kept seen)) refl
 
-is-for : (v : View) (o : Option AskerId) (k : Copy) → copy_of_asker v o ≡ Some k → IsFor k.stream o
+is-for : (v : View) (o : Option AskerId) (k : Copy) → copy_of_asker v o ≡ Some k → stream_of o ≡ Some k.stream
 is-for v None k e = absurd (cc)
-is-for v (Some id) k e = copy-stream v.image id.stream k (heard-by v id k e).among
+is-for v (Some id) k e = ap Some (sym (copy-stream v.image id.stream k (heard-by v id k e).among))
 
 tells-heard : (v : View) (now : ℕ) (packet : Packet) (o : Option Copy) → copy_of_asker v (addressee packet) ≡ o → Tells (call.Heard packet now) (Ok (hears v now packet o))
 tells-heard v now packet None e = tells-none (call.Heard packet now) (hears v now packet None) refl
@@ -209,7 +145,7 @@ tells-deleted v name seq (Some known) = by (message_at seq known.stream.rows)
     by None = tt
     by (Some m) = tells-entry (call.Delete name seq) (writes v name known.stream (Del seq) outcome.Deleted) name (Del seq) refl refl refl
 
-tells-takes : (c : ShardCall) (v : View) (name : List ℕ) (f : StreamFacts) (e : Entry) (count : ℕ) (o : Outcome) → WritesIn name c → Tells c (cond (eqb count 0) (Ok (reads v o)) (Ok (writes v name f e o)))
+tells-takes : (c : ShardCall) (v : View) (name : List ℕ) (f : StreamFacts) (e : Entry) (count : ℕ) (o : Outcome) → written_to c ≡ Some name → Tells c (cond (eqb count 0) (Ok (reads v o)) (Ok (writes v name f e o)))
 tells-takes c v name f e count o w = tells-if c (eqb count 0) (Ok (reads v o)) (Ok (writes v name f e o)) (tells-none c (reads v o) refl) (tells-entry c (writes v name f e o) name e w refl refl)
 
 tells-purged : (v : View) (name pattern : List ℕ) (below : Option ℕ) (o : Option NameFacts) → Tells (call.Purge name pattern below) (purges v name pattern below o)
@@ -301,25 +237,132 @@ tells v call.LinkLost answer a = subst (Tells call.LinkLost) (sym a) (tells-none
 
 -- ---- the law
 
-kept-now : (old new : ShardState) (c : ShardCall) (reply : ShardReply) (e : Entry) → Moves old c reply new → IsAccepted reply.outcome → reply.entry ≡ Some e → IsKept c e new.log
-kept-now old new c reply e m taken is =
-    let s = accepted reply.outcome old.held c reply m.records new.held taken m.step in
-    let w = tells (view_in s.ready) c (Ok s.does) s.answers e (ap (λ (r : ShardReply). r.entry) (sym s.replies) ∙ is) in
-    let log : new.log ≡ old.log ++ (s.loaded ++ Of w.name e ∷ []) = m.log ∙ ap (λ (l : List Rec). old.log ++ l) (s.joins ∙ ap (λ (l : List Rec). s.loaded ++ l) w.record_is) in
+-- the entry of an answer is the last of its stream
+record WrittenNow (c : ShardCall) (e : Entry) (log : List Rec) : Type 0 where
+  name : List ℕ
+  writes : written_to c ≡ Some name
+  incarnation_then : ℕ
+  stream : Made
+  made_then : made log name incarnation_then ≡ Some stream
+  earlier : List Entry
+  entry : stream.history.entries ≡ earlier ++ e ∷ []
+
+one_of : (o : Option Rec) (r : Rec) → option_list o ≡ r ∷ [] → o ≡ Some r
+one_of None r e = absurd (cc)
+one_of (Some x) r e = cc
+
+written-now : Laws → (mid new : ShardState) (c : ShardCall) (does : Effect) (e : Entry) → ShardOk mid → mid.held.loaded ≡ true → AnswersOn mid c does new → does.reply.entry ≡ Some e → WrittenNow c e new.log
+written-now laws mid new c does e ok loaded a is =
+    let w = tells (view_in mid.held) c (Ok does) a.answers e is in
+    let r = row laws mid new c does ok loaded a in
+    let may : MayStand mid.log (Of w.name e) = r.adds.may (Of w.name e) (one_of r.adds.one (Of w.name e) (sym r.adds.are ∙ w.record_is)) in
+    let m : Made = may.follows.1 in
+    let log : new.log ≡ mid.log ++ Of w.name e ∷ [] = a.log ∙ ap (λ (l : List Rec). mid.log ++ l) w.record_is in
+    let live_then : live (mid.log ++ Of w.name e ∷ []) w.name ≡ Some (with_change e m) = live-entry mid.log w.name e m may.follows.2 in
     record {
       name = w.name;
       writes = w.writes;
-      here = subst (λ (l : List Rec). Contains l (Of w.name e)) (sym log)
-          (Contains-append_right old.log (s.loaded ++ Of w.name e ∷ []) (Of w.name e)
-          (Contains-append_right s.loaded (Of w.name e ∷ []) (Of w.name e) (Contains-head (Of w.name e) [])));
+      incarnation_then = incarnation (mid.log ++ Of w.name e ∷ []) w.name;
+      stream = with_change e m;
+      made_then = subst (λ (l : List Rec). made l w.name (incarnation (mid.log ++ Of w.name e ∷ []) w.name) ≡ Some (with_change e m)) (sym log) (live-is (mid.log ++ Of w.name e ∷ []) w.name (with_change e m) live_then).1;
+      earlier = m.history.entries;
+      entry = refl;
     }
 
-pub acknowledged-survives : AcknowledgedSurvives
-acknowledged-survives old new later node k c reply e events calls taken is run =
-    let kept = kept-now (old.shard node k) (new.shard node k) c reply e calls.moves taken is in
-    let goes = goes-run new events later node k (new.shard node k).log run (record { there = subst (λ (l : List (List ℕ)). Contains l node) (sym calls.nodes) calls.there; more = []; is = sym (append-nil (new.shard node k).log) }) in
+survives-by : Laws → (old new later : ShardState) (c : ShardCall) (reply : ShardReply) (e : Entry) → ShardOk old → Came old c reply new → ShardGrows new later → IsAccepted reply.outcome → reply.entry ≡ Some e → (name : List ℕ) × (written_to c ≡ Some name) × Survives new.log later.log name e
+survives-by laws old new later c reply e ok (Fine a) g taken is =
+    let r = ShardOk-ready laws old a.mid ok a.ready in
+    let w = written-now laws a.mid new c a.does e r.0 r.1 a.answers (ap (λ (x : ShardReply). x.entry) (sym a.replies) ∙ is) in
+    let on = g.mades w.name w.incarnation_then w.stream w.made_then in
+    (w.name, w.writes, record {
+      incarnation = w.incarnation_then;
+      stream = w.stream;
+      made_then = w.made_then;
+      earlier = w.earlier;
+      entry = w.entry;
+      stream_later = on.0;
+      made_later = on.1;
+      rest = on.2.history.rest;
+      entries = on.2.history.entries ∙ (ap (λ (l : List Entry). l ++ on.2.history.rest) w.entry ∙ append_assoc w.earlier (e ∷ []) on.2.history.rest);
+    })
+survives-by laws old new later c reply e ok (Down why t) g taken is = absurd (subst IsAccepted t.outcome_is taken)
+survives-by laws old new later c reply e ok (Fault f) g taken is = absurd (subst IsAccepted f.outcome_is taken)
+
+-- ---- refusals
+
+settled-none : (d : Option Rec) → IsSettled d []
+settled-none None = refl
+settled-none (Some r) = inl refl
+
+module _ (old new : ShardState) (records : List Rec) (log : new.log ≡ old.log ++ records) where
+  only-ready : (x : Held) → IsReady old.held records x → OnlyLoads old new
+  only-ready x r = by old.held.loaded refl
+    where
+      by : (b : Bool) → old.held.loaded ≡ b → OnlyLoads old new
+      by true q = record { settled = []; in_or_out = settled-none old.held.doubt; records = records; log = log; are = inl (r.same q).1 }
+      by false q = let l = r.loads q in record { settled = l.settled; in_or_out = l.in_or_out; records = records; log = log; are = inr (inr l.joins) }
+
+  only-none : records ≡ [] → OnlyLoads old new
+  only-none e = record { settled = []; in_or_out = settled-none old.held.doubt; records = records; log = log; are = inl e }
+
+  only-settled : IsSettled old.held.doubt records → OnlyLoads old new
+  only-settled e = record { settled = records; in_or_out = e; records = records; log = log; are = inr (inl refl) }
+
+  only-lacks : (c : ShardCall) (end need : ℕ) → LacksRoom old.held c end need records new.held ⊎ LacksRoomToLoad old.held end need records new.held → OnlyLoads old new
+  only-lacks c end need (inl l) = only-ready new.held l.is_ready
+  only-lacks c end need (inr l) = only-none l.none
+
+  only-stays : StaysOrLoads old.held records new.held → OnlyLoads old new
+  only-stays (inl same) = only-none same.1
+  only-stays (inr r) = only-ready new.held r
+
+  only-faulty : (c : ShardCall) (made_entry : Option Entry) → Faults old.held c made_entry records new.held ⊎ FailsToLoad old.held made_entry records new.held → OnlyLoads old new
+  only-faulty c made_entry (inl f) = only-ready f.ready f.is_ready
+  only-faulty c made_entry (inr f) = elim f.result [ inl same ↦ only-none same.1 | inr w ↦ only-settled w.0 ]
+
+  only-refused : (c : ShardCall) (why : ShardRefusal) (made_entry : Option Entry) → Refuses old.held c why made_entry records new.held → OnlyLoads old new
+  only-refused c (refusal.Of why) made_entry r = only-ready new.held r.1.is_ready
+  only-refused c refusal.NoStream made_entry r = only-ready new.held r.1.is_ready
+  only-refused c (refusal.BadConfig member) made_entry r = only-ready new.held r.1.is_ready
+  only-refused c refusal.NameTaken made_entry r = only-ready new.held r.1.is_ready
+  only-refused c refusal.TooManyStreams made_entry r = only-ready new.held r.1.is_ready
+  only-refused c (refusal.OldAttempt kept seen) made_entry r = only-ready new.held r.1.is_ready
+  only-refused c refusal.TooManyConsumers made_entry r = only-ready new.held r.1.is_ready
+  only-refused c refusal.NoMessage made_entry r = only-ready new.held r.1.is_ready
+  only-refused c (refusal.JournalFull end need) made_entry r = only-lacks c end need r.1
+  only-refused c (refusal.BadJournal place) made_entry r = only-none r.1.none
+  only-refused c refusal.NoMemory made_entry r = only-stays r.1
+  only-refused c refusal.DiskFault made_entry r = only-faulty c made_entry r
+
+  only-by : (o : Outcome) (c : ShardCall) (reply : ShardReply) → (IsAccepted o → ⊥) → StepTo o old.held c reply records new.held → OnlyLoads old new
+  only-by (outcome.Made fresh) c reply no_one s = absurd (no_one tt)
+  only-by outcome.Updated c reply no_one s = absurd (no_one tt)
+  only-by outcome.Removed c reply no_one s = absurd (no_one tt)
+  only-by (outcome.Stored seq) c reply no_one s = absurd (no_one tt)
+  only-by (outcome.Duplicate seq) c reply no_one s = absurd (no_one tt)
+  only-by outcome.Deleted c reply no_one s = absurd (no_one tt)
+  only-by (outcome.Purged count) c reply no_one s = absurd (no_one tt)
+  only-by (outcome.Expired count) c reply no_one s = absurd (no_one tt)
+  only-by (outcome.Found found) c reply no_one s = absurd (no_one tt)
+  only-by (outcome.Info facts) c reply no_one s = absurd (no_one tt)
+  only-by (outcome.Listed names) c reply no_one s = absurd (no_one tt)
+  only-by (outcome.Consumer name) c reply no_one s = absurd (no_one tt)
+  only-by outcome.Sent c reply no_one s = absurd (no_one tt)
+  only-by (outcome.Heard decision) c reply no_one s = absurd (no_one tt)
+  only-by (outcome.Refused why) c reply no_one s = only-refused c why s.doubted s.refuses
+
+-- What was acknowledged lasts.
+pub acknowledged-survives : Laws → AcknowledgedSurvives
+acknowledged-survives laws first old new later before after node k c reply empty run calls run_after =
+    let inv_old : Inv old = Inv-run laws first before old (Inv-empty first empty) run in
+    let inv_new : Inv new = Inv-event laws old (Call node k c reply) new inv_old calls in
+    let inv_later : Inv later = Inv-run laws new after later inv_new run_after in
+    let g : ShardGrows (new.shard node k) (later.shard node k) = run-grows laws new after later inv_new run_after node k in
+    let m = calls.moves in
     record {
-      name = kept.name;
-      writes = kept.writes;
-      here = subst (λ (l : List Rec). Contains l (Of kept.name e)) (sym goes.is) (Contains-append_left (new.shard node k).log goes.more (Of kept.name e) kept.here);
+      more = g.more;
+      grows = g.log;
+      image_is = (inv_later.shards node k).image_is;
+      survives = λ e taken is. survives-by laws (old.shard node k) (new.shard node k) (later.shard node k) c reply e (inv_old.shards node k) (moves-came (old.shard node k) c reply (new.shard node k) m (inv_old.shards node k)) g taken is;
+      refused = λ no_one. only-by (old.shard node k) (new.shard node k) m.records m.log reply.outcome c reply no_one m.step;
     }

@@ -1,16 +1,19 @@
 -- What holds of every run, and of every event.
-use Rattle.std.specs.Prelude.{◌≡◌, ℕ, ⊤, List, [], ◌∷◌, ◌++◌, Option, Some, None, Contains}
+use Rattle.std.specs.Prelude.{◌≡◌, ◌⊎◌, ℕ, ⊤, List, [], ◌∷◌, ◌++◌, Option, Some, None}
 use Rattle.js_wire.specs.declared.packet.AskerId.{AskerId}
 use Rattle.js_wire.specs.declared.packet.Packet.{Packet}
 use Rattle.stream_fold.specs.declared.entry.Entry.{Entry}
 use Rattle.record_codec.specs.declared.records.Rec.{Rec}
-use Rattle.record_codec.specs.declared.records.Rec.TheVariants.{Of}
 use Rattle.shard_machine.specs.declared.call.ShardCall.{ShardCall}
 use Rattle.shard_machine.specs.declared.call.ShardCall.TheVariants as call
 use Rattle.shard_machine.specs.declared.reply.Outcome.{Outcome}
 use Rattle.shard_machine.specs.declared.reply.Outcome.TheVariants as outcome
 use Rattle.shard_machine.specs.declared.reply.ShardReply.{ShardReply}
+use Rattle.shard_machine.specs.Logs.{Made, made}
+use Rattle.shard_machine.specs.Images.{image, image_after}
 use Rattle.shard_machine.specs.Answers.{addressee}
+use Rattle.shard_machine.specs.Steps.{IsSettled, next_boot}
+use Rattle.run_soundness.specs.Shards.{ShardState}
 use Rattle.run_soundness.specs.Worlds.{World, Event, Call, Cut, Join, Crash, CrashWithin, Begin, MayCall, Calls, Happens, Run, IsEmpty}
 use Rattle.run_soundness.specs.Soundness.{Sound}
 
@@ -38,41 +41,66 @@ IsAccepted outcome.Sent = ⊤
 IsAccepted (outcome.Heard decision) = ⊤
 IsAccepted (outcome.Refused why) = ⊥
 
--- the asker that a packet names copies into this stream
-abbrev pub IsFor : List ℕ → Option AskerId → Type 0
-IsFor name None = ⊥
-IsFor name (Some asker) = name ≡ asker.stream
+-- the stream of an asker
+abbrev pub stream_of : Option AskerId → Option (List ℕ)
+stream_of None = None
+stream_of (Some asker) = Some asker.stream
 
--- the call may write in this stream
-abbrev pub WritesIn : List ℕ → ShardCall → Type 0
-WritesIn name (call.Create config now) = ⊥
-WritesIn name (call.Update config) = name ≡ config.name
-WritesIn name (call.Remove stream) = ⊥
-WritesIn name (call.Publish stream message now) = name ≡ stream
-WritesIn name (call.Delete stream seq) = name ≡ stream
-WritesIn name (call.Purge stream pattern below) = name ≡ stream
-WritesIn name (call.Expire stream now) = name ≡ stream
-WritesIn name (call.Get stream which) = ⊥
-WritesIn name (call.Info stream) = ⊥
-WritesIn name call.Names = ⊥
-WritesIn name (call.MakeConsumer ask now) = ⊥
-WritesIn name (call.Pump stream budget now) = ⊥
-WritesIn name (call.FlowReply packet) = ⊥
-WritesIn name (call.Reach node there now) = ⊥
-WritesIn name (call.Heard packet now) = IsFor name (addressee packet)
-WritesIn name (call.Tick now) = ⊥
-WritesIn name call.LinkLost = ⊥
+-- the stream in which a call writes an entry, where it writes one
+abbrev pub written_to : ShardCall → Option (List ℕ)
+written_to (call.Create config now) = None
+written_to (call.Update config) = Some config.name
+written_to (call.Remove stream) = None
+written_to (call.Publish stream message now) = Some stream
+written_to (call.Delete stream seq) = Some stream
+written_to (call.Purge stream pattern below) = Some stream
+written_to (call.Expire stream now) = Some stream
+written_to (call.Get stream which) = None
+written_to (call.Info stream) = None
+written_to call.Names = None
+written_to (call.MakeConsumer ask now) = None
+written_to (call.Pump stream budget now) = None
+written_to (call.FlowReply packet) = None
+written_to (call.Reach node there now) = None
+written_to (call.Heard packet now) = stream_of (addressee packet)
+written_to (call.Tick now) = None
+written_to call.LinkLost = None
 
--- the entry is in the log, in a stream that the call may write in
-pub record IsKept (c : ShardCall) (e : Entry) (log : List Rec) : Type 0 where
-  pub name : List ℕ
-  pub writes : WritesIn name c
-  pub here : Contains log (Of name e)
+-- The entry is the last one of a stream of the first log, and the same stream has it behind the same entries in
+-- the later log.
+pub record Survives (first later : List Rec) (name : List ℕ) (e : Entry) : Type 0 where
+  pub incarnation : ℕ
+  pub stream : Made
+  pub made_then : made first name incarnation ≡ Some stream
+  pub earlier : List Entry
+  pub entry : stream.history.entries ≡ earlier ++ e ∷ []
+  pub stream_later : Made
+  pub made_later : made later name incarnation ≡ Some stream_later
+  pub rest : List Entry
+  pub entries : stream_later.history.entries ≡ earlier ++ e ∷ rest
 
--- the entry that a reply tells, unless the call was refused, is in the shard's log in every later world
+-- a load, or what a load that failed leaves, is all that joins the log
+pub record OnlyLoads (old new : ShardState) : Type 0 where
+  pub settled : List Rec
+  pub in_or_out : IsSettled old.held.doubt settled
+  pub records : List Rec
+  pub log : new.log ≡ old.log ++ records
+  pub are : (records ≡ []) ⊎ ((records ≡ settled) ⊎ (records ≡ settled ++ next_boot (image_after old.held.image settled) ∷ []))
+
+-- What a call does to the log of its shard, from before it to any later world: the log only grows, and a shard
+-- holds the image of its log; the entry of an accepted call is there in all later worlds, in its stream; and a
+-- call that was refused has added no record of its own.
+pub record Lasts (c : ShardCall) (reply : ShardReply) (old new later : ShardState) : Type 0 where
+  pub more : List Rec
+  pub grows : later.log ≡ new.log ++ more
+  pub image_is : later.held.image ≡ image later.log
+  pub survives : (e : Entry) → IsAccepted reply.outcome → reply.entry ≡ Some e → (name : List ℕ) × (written_to c ≡ Some name) × Survives new.log later.log name e
+  pub refused : (IsAccepted reply.outcome → ⊥) → OnlyLoads old new
+
+-- what was acknowledged lasts in each run
 abbrev pub AcknowledgedSurvives : Type 0
-AcknowledgedSurvives = (old new later : World) (node : List ℕ) (k : ℕ) (c : ShardCall) (reply : ShardReply) (e : Entry) (events : List Event) →
-    Calls old node k c reply new → IsAccepted reply.outcome → reply.entry ≡ Some e → Run new events later → IsKept c e (later.shard node k).log
+AcknowledgedSurvives = (first old new later : World) (before after : List Event) (node : List ℕ) (k : ℕ) (c : ShardCall) (reply : ShardReply) →
+    IsEmpty first → Run first before old → Calls old node k c reply new → Run new after later → Lasts c reply (old.shard node k) (new.shard node k) (later.shard node k)
 
 -- ---- what is shown
 

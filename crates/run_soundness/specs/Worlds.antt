@@ -100,16 +100,11 @@ pub record Crashes (old : World) (node : List ℕ) (new : World) : Type 0 where
   pub nodes : new.nodes ≡ old.nodes
   pub joined : new.joined ≡ old.joined
 
--- a new shard was loaded for the first time
-pub record IsLoadedAnew (node : List ℕ) (new : ShardState) : Type 0 where
-  pub empty : ShardState
-  pub is_new : IsNewShard node empty
-  pub loads : LoadsOn empty new
-
--- a node is made, with a name that no node has, and its shards are as a first load leaves them
+-- A node is made, with a name that no node has: its shards, which never held anything, load for the first time. The
+-- node may be joined with the others or not.
 pub record Begins (old : World) (node : List ℕ) (new : World) : Type 0 where
   pub new_name : Contains old.nodes node → ⊥
-  pub shards : (k : ℕ) → k < 8 → IsLoadedAnew node (new.shard node k)
+  pub shards : (k : ℕ) → k < 8 → LoadsOn (old.shard node k) (new.shard node k)
   pub others : OnlyNode old.shard node new.shard
   pub bag : new.bag ≡ old.bag
   pub nodes : new.nodes ≡ old.nodes ++ node ∷ []

@@ -1,4 +1,4 @@
--- The laws of the crates below that the proofs here stand on, in one record: each is what a public function
+-- The laws of the crates below that the laws here stand on, in one record: each is what a public function
 -- of those crates ensures.
 use Rattle.stream_fold.specs.Laws.{HolesStay, PutsStay, FittingRise, KeptRise, KeptAreReached, KeptWerePut, MirrorsOutlast, MirrorsStay, MirrorsStore, SourcesOutlast, SourcesStay, SourcesBind, SourcesStore}
 use Rattle.stream_fold.specs.FactLaws.{FactsGrow, FactsTell, FactsTellFits}

@@ -1,0 +1,49 @@
+//! Laws of the definitions that the contracts of this crate cite. Each function does nothing: what it
+//! ensures holds of all runs.
+ghost use Rattle.run_soundness.specs.Below.{Laws};
+ghost use Rattle.run_soundness.specs.Laws.{WorldsSound, AcknowledgedSurvives, ShownIsEnough};
+
+use push_consumer::laws::{longer_chains, right_chains, wanted_messages};
+use shard_machine::laws::{images_of_logs, legality_by_images, names_of_images, steps_of_logs};
+use stream_fold::laws::{facts_of_histories, growing_mirrors, growing_origins, growing_sources, kept_messages, longer_histories};
+
+/// What the crates below ensure of histories, consumers and shards.
+fn laws_below()
+    ensures { Laws }
+{
+    longer_histories();
+    kept_messages();
+    growing_origins();
+    growing_mirrors();
+    growing_sources();
+    facts_of_histories();
+    wanted_messages();
+    right_chains();
+    longer_chains();
+    images_of_logs();
+    names_of_images();
+    legality_by_images();
+    steps_of_logs();
+}
+
+/// Every run from a world without nodes leads to a world that is sound, over every event: calls of
+/// shards, cuts, joins, crashes, crashes within a call, and the making of a node.
+pub fn world_sound()
+    ensures { WorldsSound }
+{
+    laws_below();
+}
+
+/// What was acknowledged lasts: the log of a shard only grows, the entry of an accepted call is in its stream in
+/// every later world, and a call that was refused has added no record of its own.
+pub fn acknowledged_entries()
+    ensures { AcknowledgedSurvives }
+{
+    laws_below();
+}
+
+/// An event leads from what is shown of a world, which is all but the packets and the consumers that ever were, to
+/// the same again in every world that shows the same.
+pub fn shown_worlds()
+    ensures { ShownIsEnough }
+{}

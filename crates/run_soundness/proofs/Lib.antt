@@ -31,5 +31,6 @@ pub mod Rows
 pub mod Answering
 pub mod Runs
 pub mod Lasting
+pub mod Points
 pub mod Survives
 pub mod Shown

@@ -1,25 +1,53 @@
 -- What holds of every run, and of every event.
-use Rattle.std.specs.Prelude.{◌≡◌, ◌⊎◌, ℕ, ⊤, List, [], ◌∷◌, ◌++◌, Option, Some, None}
+use Rattle.std.specs.Prelude.{◌≡◌, ℕ, ◌≤◌, ⊤, List, ◌++◌, Option, Some, ◌⊎◌, [], ◌∷◌, None}
+use Rattle.nats_text.specs.declared.origin.Origin.{Origin}
+use Rattle.stream_fold.specs.declared.config.Copies.{Copies}
+use Rattle.stream_fold.specs.declared.config.Copies.TheVariants.{Nothing, Mirror, Sources}
+use Rattle.stream_fold.specs.declared.entry.Entry.{Entry}
+use Rattle.stream_fold.specs.Copying.{front, mark, origin_named}
+use Rattle.stream_fold.specs.Histories.{History}
+use Rattle.record_codec.specs.declared.records.Rec.{Rec}
+use Rattle.shard_machine.specs.Logs.{Made, made}
+use Rattle.run_soundness.specs.Worlds.{World, Event, Run, IsEmpty, Call, Cut, Join, Crash, CrashWithin, Begin, MayCall, Calls, Happens}
+use Rattle.run_soundness.specs.Soundness.{Sound}
 use Rattle.js_wire.specs.declared.packet.AskerId.{AskerId}
 use Rattle.js_wire.specs.declared.packet.Packet.{Packet}
-use Rattle.stream_fold.specs.declared.entry.Entry.{Entry}
-use Rattle.record_codec.specs.declared.records.Rec.{Rec}
 use Rattle.shard_machine.specs.declared.call.ShardCall.{ShardCall}
 use Rattle.shard_machine.specs.declared.call.ShardCall.TheVariants as call
 use Rattle.shard_machine.specs.declared.reply.Outcome.{Outcome}
 use Rattle.shard_machine.specs.declared.reply.Outcome.TheVariants as outcome
 use Rattle.shard_machine.specs.declared.reply.ShardReply.{ShardReply}
-use Rattle.shard_machine.specs.Logs.{Made, made}
 use Rattle.shard_machine.specs.Images.{image, image_after}
 use Rattle.shard_machine.specs.Answers.{addressee}
 use Rattle.shard_machine.specs.Steps.{IsSettled, next_boot}
 use Rattle.run_soundness.specs.Shards.{ShardState}
-use Rattle.run_soundness.specs.Worlds.{World, Event, Call, Cut, Join, Crash, CrashWithin, Begin, MayCall, Calls, Happens, Run, IsEmpty}
-use Rattle.run_soundness.specs.Soundness.{Sound}
 
 -- every run from a world without nodes leads to a world that is sound
 abbrev pub WorldsSound : Type 0
 WorldsSound = (first : World) (events : List Event) (w : World) → IsEmpty first → Run first events w → Sound w
+
+-- ---- how far copies have come
+
+-- a copy has come at least as far: the front of a mirror, the mark of a source
+abbrev pub NoLess : Copies → ℕ → Origin → History → History → Type 0
+NoLess Nothing index want earlier later = ⊤
+NoLess (Mirror origin) index want earlier later = front want.start earlier.entries ≤ front want.start later.entries
+NoLess (Sources origins) index want earlier later = mark index earlier ≤ mark index later
+
+-- a stream that was made is there in this log too, its history goes on, and each of its copies has come at
+-- least as far
+pub record NeverBack (earlier : Made) (log : List Rec) (name : List ℕ) (incarnation : ℕ) : Type 0 where
+  pub later : Made
+  pub there : made log name incarnation ≡ Some later
+  pub rest : List Entry
+  pub goes_on : later.history.entries ≡ earlier.history.entries ++ rest
+  pub points : (index : ℕ) (want : Origin) → origin_named index earlier.history.config.copies ≡ Some want → NoLess earlier.history.config.copies index want earlier.history later.history
+
+-- no stream that was ever made goes away or back, nor do its copies, whatever happens, crashes included
+abbrev pub PointsNeverGoBack : Type 0
+PointsNeverGoBack = (first w v : World) (before after : List Event) → IsEmpty first → Run first before w → Run w after v →
+    (node : List ℕ) (k : ℕ) (name : List ℕ) (incarnation : ℕ) (m : Made) → made (w.shard node k).log name incarnation ≡ Some m →
+    NeverBack m (v.shard node k).log name incarnation
 
 -- ---- what was acknowledged
 
@@ -104,12 +132,12 @@ AcknowledgedSurvives = (first old new later : World) (before after : List Event)
 
 -- ---- what is shown
 
--- Two worlds show the same now: they differ in what was ever sent and in consumers that were made at most.
+-- Two worlds show the same now: they differ in what was ever sent, in the logs for which their shards stand and in
+-- consumers that were made at most.
 pub record ShowsSame (w v : World) : Type 0 where
   pub nodes : v.nodes ≡ w.nodes
   pub joined : (n : List ℕ) → v.joined n ≡ w.joined n
   pub held : (n : List ℕ) (k : ℕ) → (v.shard n k).held ≡ (w.shard n k).held
-  pub log : (n : List ℕ) (k : ℕ) → (v.shard n k).log ≡ (w.shard n k).log
 
 -- the packet that an event takes, if it takes one, is in this bag
 abbrev pub TakesFrom : List Packet → Event → Type 0
@@ -127,6 +155,6 @@ pub record LeadsAlike (w : World) (e : Event) (shown : World) : Type 0 where
   pub same : ShowsSame shown next
 
 -- An event that takes no packet, or one that was sent, leads from what is shown to the same again, whatever else
--- was ever sent and whichever consumers were made.
+-- was ever sent, whichever consumers were made, and whatever the logs are of which the shards hold the images.
 abbrev pub ShownIsEnough : Type 0
 ShownIsEnough = (w next other : World) (e : Event) → Happens w e next → ShowsSame w other → TakesFrom other.bag e → LeadsAlike other e next

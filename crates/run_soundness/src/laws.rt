@@ -1,7 +1,7 @@
 //! Laws of the definitions that the contracts of this crate cite. Each function does nothing: what it
 //! ensures holds of all runs.
 ghost use Rattle.run_soundness.specs.Below.{Laws};
-ghost use Rattle.run_soundness.specs.Laws.{WorldsSound, AcknowledgedSurvives, ShownIsEnough};
+ghost use Rattle.run_soundness.specs.Laws.{AcknowledgedSurvives, PointsNeverGoBack, ShownIsEnough, WorldsSound};
 
 use push_consumer::laws::{longer_chains, right_chains, wanted_messages};
 use shard_machine::laws::{images_of_logs, legality_by_images, names_of_images, steps_of_logs};
@@ -34,16 +34,24 @@ pub fn world_sound()
     laws_below();
 }
 
+/// No stream that was ever made goes away or back, nor does the front of a mirror or the mark of a source,
+/// whatever happens, crashes included.
+pub fn points_never_go_back()
+    ensures { PointsNeverGoBack }
+{
+    laws_below();
+}
+
 /// What was acknowledged lasts: the log of a shard only grows, the entry of an accepted call is in its stream in
 /// every later world, and a call that was refused has added no record of its own.
-pub fn acknowledged_entries()
+pub fn acknowledged_survives()
     ensures { AcknowledgedSurvives }
 {
     laws_below();
 }
 
-/// An event leads from what is shown of a world, which is all but the packets and the consumers that ever were, to
-/// the same again in every world that shows the same.
-pub fn shown_worlds()
+/// An event leads from what is shown of a world to the same again, in every world that shows the same: what is
+/// shown is all but the packets that were sent, the consumers that were made and the logs.
+pub fn shown_is_enough()
     ensures { ShownIsEnough }
 {}

@@ -33,3 +33,5 @@ pub mod Runs
 pub mod Lasting
 pub mod Points
 pub mod Witness
+pub mod Survives
+pub mod Shown

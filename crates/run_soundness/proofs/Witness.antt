@@ -24,6 +24,7 @@ use Rattle.shard_machine.specs.Answers.{Answered, Answers, Creates, creates, cre
 use Rattle.shard_machine.specs.Steps.{Held, Loads, Succeeds, view_in, after_effect, end_after, needed, has_room}
 use Rattle.shard_machine.proofs.Images.{names-stand}
 use Rattle.run_soundness.specs.Shards.{ShardState, Moves, LoadsOn, RestsOn, empty_held}
+use Rattle.run_soundness.specs.Laws.{ARun}
 use Rattle.run_soundness.specs.Worlds.{World, shard_of, Calls, Crashes, Begins, Run, IsEmpty}
 use Rattle.run_soundness.specs.Worlds.Event.{Call, Crash, Begin}
 use Rattle.run_soundness.proofs.Invariant.{with_shard, with-here, with-else}
@@ -190,3 +191,6 @@ crashes = record {
 -- There is a run in which a node is made, makes a stream and crashes.
 pub run-happens : Run first (Begin hub ∷ Call hub k (call.Create config 0) made_now.reply ∷ Crash hub ∷ []) third
 run-happens = (begun, begins, (second, calls, (third, crashes, refl)))
+
+pub a-run : ARun
+a-run = record { first = first; last = third; node = hub; config = config; reply = made_now.reply; empty = starts-empty; run = run-happens; accepted = refl }

@@ -1,7 +1,7 @@
 //! Laws of the definitions that the contracts of this crate cite. Each function does nothing: what it
 //! ensures holds of all runs.
 ghost use Rattle.run_soundness.specs.Below.{Laws};
-ghost use Rattle.run_soundness.specs.Laws.{PointsNeverGoBack, WorldsSound};
+ghost use Rattle.run_soundness.specs.Laws.{AcknowledgedSurvives, PointsNeverGoBack, ShownIsEnough, WorldsSound, RunsHappen};
 
 use push_consumer::laws::{longer_chains, right_chains, wanted_messages};
 use shard_machine::laws::{images_of_logs, legality_by_images, names_of_images, steps_of_logs};
@@ -41,3 +41,22 @@ pub fn points_never_go_back()
 {
     laws_below();
 }
+
+/// What was acknowledged lasts: the log of a shard only grows, the entry of an accepted call is in its stream in
+/// every later world, and a call that was refused has added no record of its own.
+pub fn acknowledged_survives()
+    ensures { AcknowledgedSurvives }
+{
+    laws_below();
+}
+
+/// An event leads from what is shown of a world to the same again, in every world that shows the same: what is
+/// shown is all but the packets that were sent, the consumers that were made and the logs.
+pub fn shown_is_enough()
+    ensures { ShownIsEnough }
+{}
+
+/// Runs happen: there is one in which a node is made, makes a stream and crashes.
+pub fn runs_happen()
+    ensures { RunsHappen }
+{}

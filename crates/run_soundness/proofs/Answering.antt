@@ -118,8 +118,13 @@ module _ (laws : Laws) (w : World) (n : List ℕ) (k : ℕ) (inv : Inv w) (loade
   asked-phase : (a : AskerId) (g : History) (want : Origin) → IsCopy t a g want → HasAsked does t a → PhaseAfter w does.reply.packets a g want (now_phase a)
   asked-phase a g want c h =
       let q = same-copy a g h.g want h.want c h.copy in
-      inr (h.attempt, h.since, h.phase, subst (λ (x : Origin). Contains does.reply.packets (Ask a h.attempt (node_or a.node x.node) x.stream (ask_start (copy_of a g x)) (filters_of x))) q.1
-      (subst (λ (x : History). Contains does.reply.packets (Ask a h.attempt (node_or a.node h.want.node) h.want.stream (ask_start (copy_of a x h.want)) (filters_of h.want))) q.0 h.sent))
+      inr (
+        h.attempt,
+        h.since,
+        h.phase,
+        subst (λ (x : Origin). Contains does.reply.packets (Ask a h.attempt (node_or a.node x.node) x.stream (ask_start (copy_of a g x)) (filters_of x))) q.1
+            (subst (λ (x : History). Contains does.reply.packets (Ask a h.attempt (node_or a.node h.want.node) h.want.stream (ask_start (copy_of a x h.want)) (filters_of h.want))) q.0 h.sent),
+      )
 
   -- what stands of the stream of a copy that heard a packet, by the entry that was written
   heard-stream : (a : AskerId) (g : History) (want : Origin) → (c : IsCopy s a g want) → (o : Option Entry) → does.records ≡ written a.stream o → (m : Made) × (live t.log a.stream ≡ Some m) × (m.history ≡ with_maybe g o)

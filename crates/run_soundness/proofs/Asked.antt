@@ -331,15 +331,13 @@ module _ (laws : Laws) (mid new : ShardState) (called : ShardCall) (does : Effec
       let f = fine.stored s i w.0 w.1 in
       (ap (λ (x : AskerState). x.id) (sym w.2) ∙ f.0, ap (λ (x : AskerState). x.boot) (sym w.2) ∙ f.1)
   stored-by s i st (RowAsked r) q =
-      let same : asking (asker_of v r.c) r.now ≡ st = (let z : Some (asking (asker_of v r.c) r.now) ≡ Some st = sym r.stored ∙ q in cc) in
-      (
+      let same : asking (asker_of v r.c) r.now ≡ st = (let z : Some (asking (asker_of v r.c) r.now) ≡ Some st = sym r.stored ∙ q in cc) in (
         ap (λ (x : AskerState). x.id) (sym same) ∙ (asker-id mid.held fine r.c (stored_at mid.held.askers r.c.stream r.c.index) refl ∙ (λ j. record { node = mid.held.node; stream = r.stream_is j; index = r.index_is j })),
         ap (λ (x : AskerState). x.boot) (sym same) ∙ asker-boot mid.held fine (id_of mid.held.node r.c) (stored_at mid.held.askers r.c.stream r.c.index) refl,
       )
   stored-by s i st (RowHeard r) q =
       let own : AskerState = with_phase (asker_of v r.c) (phase_by r.d r.packet r.now (asker_of v r.c).phase) in
-      let same : own ≡ st = (let z : Some own ≡ Some st = sym r.stored ∙ q in cc) in
-      (
+      let same : own ≡ st = (let z : Some own ≡ Some st = sym r.stored ∙ q in cc) in (
         ap (λ (x : AskerState). x.id) (sym same) ∙ (asker-id mid.held fine r.c (stored_at mid.held.askers r.c.stream r.c.index) refl ∙ (λ j. record { node = mid.held.node; stream = r.stream_is j; index = r.index_is j })),
         ap (λ (x : AskerState). x.boot) (sym same) ∙ asker-boot mid.held fine (id_of mid.held.node r.c) (stored_at mid.held.askers r.c.stream r.c.index) refl,
       )
@@ -375,8 +373,7 @@ module _ (laws : Laws) (mid new : ShardState) (called : ShardCall) (does : Effec
       let stored : stored_at does.askers x.stream x.index ≡ Some (asking (asker_of v w.asked.c) w.asked.now) =
       ap (λ (y : AskerId). stored_at does.askers y.stream y.index) id ∙ w.asked.stored in
       let one : asker_of v w.asked.c ≡ asker_at mid.held x =
-      asker-same x w.asked.c (ap (λ (y : AskerId). y.node) id) (w.asked.stream_is ∙ sym (ap (λ (y : AskerId). y.stream) id)) (w.asked.index_is ∙ sym (ap (λ (y : AskerId). y.index) id)) in
-      (
+      asker-same x w.asked.c (ap (λ (y : AskerId). y.node) id) (w.asked.stream_is ∙ sym (ap (λ (y : AskerId). y.stream) id)) (w.asked.index_is ∙ sym (ap (λ (y : AskerId). y.index) id)) in (
         ap (λ (y : Stamp). y.boot) at_is ∙ (asker-boot mid.held fine (id_of mid.held.node w.c) (stored_at mid.held.askers w.c.stream w.c.index) refl ∙ boot-mid),
         ap (λ (y : Stamp). y.count) at_is ∙ ap (λ (st : AskerState). st.attempts + 1) same,
         ap (λ (st : AskerState). st.attempts) (at-is x (Some (asking (asker_of v w.asked.c) w.asked.now)) stored) ∙ ap (λ (st : AskerState). st.attempts + 1) one,

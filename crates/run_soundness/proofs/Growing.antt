@@ -100,9 +100,14 @@ says-grows (Answer a attempt name incarnation from) s t c d g l q =
     (l.name ∙ q.0, ap (λ (x : Wanted). x.asker) l.wanted ∙ q.1, ap (λ (x : Wanted). x.attempt) l.wanted ∙ q.2, l.incarnation ∙ q.3, ap (λ (x : Wanted). x.start) l.wanted ∙ q.4)
 says-grows (Refuse a attempt code err_code) s t c d g l q = q
 says-grows (Delivery a attempt stream name number seq pending m) s t c d g l q =
-    let r = read-on s t c d q.5.0 g l q.5.1 in
-    (l.name ∙ q.0, ap (λ (x : Wanted). x.asker) l.wanted ∙ q.1, ap (λ (x : Wanted). x.attempt) l.wanted ∙ q.2, l.stream ∙ q.3,
-    (q.4.0, q.4.1, chain-get c d q.4.0 seq l q.4.2), (r.0, r.1, put-on q.5.0.history r.0.history seq m r.2.history q.5.2))
+    let r = read-on s t c d q.5.0 g l q.5.1 in (
+      l.name ∙ q.0,
+      ap (λ (x : Wanted). x.asker) l.wanted ∙ q.1,
+      ap (λ (x : Wanted). x.attempt) l.wanted ∙ q.2,
+      l.stream ∙ q.3,
+      (q.4.0, q.4.1, chain-get c d q.4.0 seq l q.4.2),
+      (r.0, r.1, put-on q.5.0.history r.0.history seq m r.2.history q.5.2),
+    )
 says-grows (Beat a attempt origin stream name last_number last_seq stalled) s t c d g l q =
     (l.name ∙ q.0, ap (λ (x : Wanted). x.asker) l.wanted ∙ q.1, ap (λ (x : Wanted). x.attempt) l.wanted ∙ q.2, l.stream ∙ q.3, (let le = chain-length c d l in let k = q.4 in omega arith))
 says-grows (FlowAsk a attempt origin stream name token) s t c d g l q = q

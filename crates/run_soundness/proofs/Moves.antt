@@ -152,10 +152,10 @@ mirror-stores laws w a attempt name k seq m o g want n both is above mh =
     let r : reached (copy_of a g want) ≡ point (Mirror o) a.index want g = reached-is a g want both.fit ∙ ap (λ (c : Copies). point c a.index want g) is in
     let from = n.b.begins in
     let holes : AreHolesFrom n.b.origin.history (max (copy_start a.index g) (last g.entries + 1)) seq = λ s x lo lt e.
-        elim (left-out w a attempt name k seq g want n.b n.skips n.faultless n.origin n.member s x (omega arith) lt e (subst (λ (c : Copies). IsToStore c want x s) (sym is) tt)) [
-          | inl has ↦ (let q : HasStored (Mirror o) a.index g s = subst (λ (c : Copies). HasStored c a.index g s) is has in let p = put-below g.entries s q.0 q.1 in absurd (omega arith))
-          | inr hole ↦ hole
-        ] in
+    elim (left-out w a attempt name k seq g want n.b n.skips n.faultless n.origin n.member s x (omega arith) lt e (subst (λ (c : Copies). IsToStore c want x s) (sym is) tt)) [
+      | inl has ↦ (let q : HasStored (Mirror o) a.index g s = subst (λ (c : Copies). HasStored c a.index g s) is has in let p = put-below g.entries s q.0 q.1 in absurd (omega arith))
+      | inr hole ↦ hole
+    ] in
     subst (λ x. MirrorHolds n.b.origin.history (g.entries ++ Put seq m None ∷ []) x) (sym (start-passes a.index g (Put seq m None) both.fit both.more refl))
     (laws.mirrors_store n.b.origin.history g.entries (copy_start a.index g) seq m n.rise (omega arith) (omega arith) holes n.there mh)
 
@@ -191,10 +191,10 @@ source-stores laws w a attempt name k seq t m v os g want n fit is above vi sh =
     let r : reached (copy_of a g want) ≡ mark a.index g = reached-is a g want fit ∙ ap (λ (c : Copies). point c a.index want g) is in
     let from = n.b.begins in
     let holes : AreHolesBetween want n.b.origin.history (mark a.index g) seq = λ s x y lo lt e f.
-        elim (left-out w a attempt name k seq g want n.b n.skips n.faultless n.origin n.member s x (omega arith) lt e (subst (λ (c : Copies). IsToStore c want x s) (sym is) (y, f))) [
-          | inl has ↦ (let q : Contains (marks a.index g.entries) s = subst (λ (c : Copies). HasStored c a.index g s) is has in let p = mark-top a.index g s sh.rise q in absurd (omega arith))
-          | inr hole ↦ hole
-        ] in
+    elim (left-out w a attempt name k seq g want n.b n.skips n.faultless n.origin n.member s x (omega arith) lt e (subst (λ (c : Copies). IsToStore c want x s) (sym is) (y, f))) [
+      | inl has ↦ (let q : Contains (marks a.index g.entries) s = subst (λ (c : Copies). HasStored c a.index g s) is has in let p = mark-top a.index g s sh.rise q in absurd (omega arith))
+      | inr hole ↦ hole
+    ] in
     laws.sources_store want n.b.origin.history g a.index seq (at_time t v) above holes
     (record { message = m; there = n.there; made = vi ∙ ap Some (with-time v m.time (via-time want m v seq (route want.filter want.maps m.subject) vi)) }) sh
 

@@ -237,10 +237,12 @@ Inv-sound w inv = record {
   chains = record { each = λ n k. (inv.shards n k).chains };
   bag = inv.bag;
   askers = record { each = λ a g want c. (inv.askers a.node (shard_of a.stream)).phase a (refl, refl) g want c };
-  copies = record { each = λ n k. record {
-    copies = λ name i m j want e o. (inv.logs n k (w.shard n k).log (inl refl) name i m e).holds j want o;
-    numbers = λ name i m e. ((inv.shards n k).logs.each name i m e).follow;
-  } };
+  copies = record {
+    each = λ n k. record {
+      copies = λ name i m j want e o. (inv.logs n k (w.shard n k).log (inl refl) name i m e).holds j want o;
+      numbers = λ name i m e. ((inv.shards n k).logs.each name i m e).follow;
+    };
+  };
   doubts = record {
     follows = λ n k r d. ((inv.shards n k).doubt r d).follows;
     each = λ n k r d. record {

@@ -273,18 +273,21 @@ survives-by : Laws → (old new later : ShardState) (c : ShardCall) (reply : Sha
 survives-by laws old new later c reply e ok (Fine a) g taken is =
     let r = ShardOk-ready laws old a.mid ok a.ready in
     let w = written-now laws a.mid new c a.does e r.0 r.1 a.answers (ap (λ (x : ShardReply). x.entry) (sym a.replies) ∙ is) in
-    let on = g.mades w.name w.incarnation_then w.stream w.made_then in
-    (w.name, w.writes, record {
-      incarnation = w.incarnation_then;
-      stream = w.stream;
-      made_then = w.made_then;
-      earlier = w.earlier;
-      entry = w.entry;
-      stream_later = on.0;
-      made_later = on.1;
-      rest = on.2.history.rest;
-      entries = on.2.history.entries ∙ (ap (λ (l : List Entry). l ++ on.2.history.rest) w.entry ∙ append_assoc w.earlier (e ∷ []) on.2.history.rest);
-    })
+    let on = g.mades w.name w.incarnation_then w.stream w.made_then in (
+      w.name,
+      w.writes,
+      record {
+        incarnation = w.incarnation_then;
+        stream = w.stream;
+        made_then = w.made_then;
+        earlier = w.earlier;
+        entry = w.entry;
+        stream_later = on.0;
+        made_later = on.1;
+        rest = on.2.history.rest;
+        entries = on.2.history.entries ∙ (ap (λ (l : List Entry). l ++ on.2.history.rest) w.entry ∙ append_assoc w.earlier (e ∷ []) on.2.history.rest);
+      },
+    )
 survives-by laws old new later c reply e ok (Down why t) g taken is = absurd (subst IsAccepted t.outcome_is taken)
 survives-by laws old new later c reply e ok (Fault f) g taken is = absurd (subst IsAccepted f.outcome_is taken)
 

@@ -5,7 +5,10 @@ ghost use Rattle.run_soundness.specs.Laws.{AcknowledgedSurvives, PointsNeverGoBa
 
 use push_consumer::laws::{longer_chains, right_chains, wanted_messages};
 use shard_machine::laws::{images_of_logs, legality_by_images, names_of_images, steps_of_logs};
-use stream_fold::laws::{facts_of_histories, growing_mirrors, growing_origins, growing_sources, kept_messages, longer_histories};
+use stream_fold::laws::{
+    facts_of_histories, growing_mirrors, growing_origins, growing_sources, kept_messages,
+    longer_histories,
+};
 
 /// What the crates below ensure of histories, consumers and shards.
 fn laws_below()

@@ -1,6 +1,6 @@
 -- What an answer of a loaded shard leaves of its askers, and the whole of it.
-use Rattle.std.proofs.Common.{◌≡◌, ◌≢◌, ℕ, Bool, true, false, List, [], ◌∷◌, ◌++◌, Option, Some, None, refl, sym, ap, ◌∙◌, subst, ◌⊎◌, inl, inr, append-nil}
-use Rattle.std.specs.Prelude.{Contains, IsTrue, Ok}
+use Rattle.std.proofs.Common.{◌≡◌, ◌≢◌, ℕ, true, false, List, [], ◌∷◌, ◌++◌, Option, Some, None, refl, sym, ap, ◌∙◌, subst, ◌⊎◌, inl, inr, append-nil}
+use Rattle.std.specs.Prelude.{Contains, Ok}
 use Rattle.std.proofs.lemmas.Bool.{cases_eq}
 use Rattle.nats_text.specs.declared.message.Stamp.{Stamp}
 use Rattle.nats_text.specs.declared.message.Start.{Start}
@@ -10,7 +10,6 @@ use Rattle.js_wire.specs.declared.packet.Packet.{Packet}
 use Rattle.js_wire.specs.declared.packet.Packet.TheVariants.{Ask}
 use Rattle.stream_fold.specs.declared.config.Config.{Config}
 use Rattle.stream_fold.specs.declared.config.Copies.{Copies}
-use Rattle.stream_fold.specs.declared.config.Copies.TheVariants.{Mirror}
 use Rattle.stream_fold.specs.declared.decision.Decision.{Decision}
 use Rattle.stream_fold.specs.declared.decision.Decision.TheVariants.{Store, Bind as Binds, Rebind, Skip, Ignore, AskAgain, Reply, Heard as Hears, Refused as IsRefused, Stop}
 use Rattle.stream_fold.specs.declared.entry.Entry.{Entry}
@@ -27,26 +26,25 @@ use Rattle.replica_ask.specs.declared.phase.Phase.{Phase}
 use Rattle.shard_machine.specs.declared.call.ShardCall.{ShardCall}
 use Rattle.shard_machine.specs.declared.call.ShardCall.TheVariants as call
 use Rattle.shard_machine.specs.Legal.{MayFollow}
-use Rattle.shard_machine.specs.Logs.{Made, boot, incarnation, made, live, with_change}
+use Rattle.shard_machine.specs.Logs.{Made, boot, incarnation, live, with_change}
 use Rattle.shard_machine.specs.Views.{View, Effect, Copy, asker_or_new, asker_of, id_of, node_or, ask_start}
 use Rattle.shard_machine.specs.Answers.{Answered, Answers, addressee, copy_of_asker, decided_by, hears, follows}
 use Rattle.shard_machine.specs.Steps.{Held, view_in, after_effect}
-use Rattle.run_soundness.specs.Shards.{Consumer, ShardState, IsGiven, sent_now, delivered}
-use Rattle.run_soundness.specs.Worlds.{World, shard_of, MayCall, IsAskedHere}
-use Rattle.stream_fold.specs.Facts.{facts}
-use Rattle.run_soundness.specs.Soundness.{asker_at, IsCopy, copy_of, PhaseRight, SaysOf, names_consumer}
-use Rattle.run_soundness.proofs.Asked.{AskersOk, AsksOk, HasAsked, HasHeard, AskerAfter, asker-after, made-asks, askers-ok-after, own-asks, asks-after}
+use Rattle.run_soundness.specs.Shards.{Consumer, ShardState, delivered}
+use Rattle.run_soundness.specs.Worlds.{World, MayCall, IsAskedHere}
+use Rattle.run_soundness.specs.Soundness.{asker_at, IsCopy, copy_of, PhaseRight}
+use Rattle.run_soundness.proofs.Asked.{AskersOk, AsksOk, HasAsked, AskerAfter, asker-after, made-asks, askers-ok-after, own-asks, asks-after}
 use Rattle.run_soundness.proofs.Asked.AskerAfter.{Stays, Rests, Asks, Hears as HearsNow}
 use Rattle.run_soundness.proofs.Following.{entry_by, phase_by, asks_again}
 use Rattle.run_soundness.proofs.Hearing.{HearOk, with_maybe}
-use Rattle.run_soundness.proofs.Invariant.{OneAsk, GivenIn, Future, HistOk, StreamsOk, StoredOk, IsHere, Inv, MadeNow, RowOk, PhaseAfter}
+use Rattle.run_soundness.proofs.Invariant.{StreamsOk, IsHere, Inv, MadeNow, RowOk, PhaseAfter}
 use Rattle.run_soundness.specs.Below.{Laws}
-use Rattle.run_soundness.proofs.Logs.{LiveAdds, LiveMakes, live-push, live-is, live-entry}
-use Rattle.run_soundness.proofs.LogsLegal.{LogOk, MadeOk, live-ok}
+use Rattle.run_soundness.proofs.Logs.{LiveAdds, live-push, live-is, live-entry}
+use Rattle.run_soundness.proofs.LogsLegal.{LogOk, live-ok}
 use Rattle.run_soundness.proofs.Phases.{some_same, BothFit, PassesCopy, phase-passes}
 use Rattle.run_soundness.proofs.Quiet.{future-none, idle-right}
 use Rattle.run_soundness.proofs.Recorded.{IsClient, ClientWrites, HeardWrites, RecordsOk, records-ok}
-use Rattle.run_soundness.proofs.Rows.{HeardEntry, heard-entry, or-phase, entry-again, heard-ok, here-copy, old-phase, known-copies, client-passes, follows-last, next-streams}
+use Rattle.run_soundness.proofs.Rows.{HeardEntry, heard-entry, or-phase, entry-again, heard-ok, old-phase, known-copies, client-passes, follows-last, next-streams}
 use Rattle.run_soundness.proofs.ShardsAsked.{came-asked}
 use Rattle.run_soundness.proofs.ShardsAskers.{stored_at, with_asker-own, written}
 use Rattle.run_soundness.proofs.ShardsGrow.{Later, chain-now, grows-answers}

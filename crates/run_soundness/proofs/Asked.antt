@@ -1,8 +1,7 @@
 -- What becomes of askers, and that each attempt is asked with once.
-use Rattle.std.proofs.Common.{◌≡◌, ℕ, zero, suc, ◌+◌, ◌≤◌, Bool, true, false, cond, eqb, List, [], ◌∷◌, ◌++◌, Option, Some, None, refl, sym, ap, ◌∙◌, subst, arith, ◌⊎◌, inl, inr, append-nil}
-use Rattle.std.specs.Prelude.{⊤, option_map, slice_get, Contains, Ok}
+use Rattle.std.proofs.Common.{◌≡◌, ℕ, zero, suc, ◌+◌, ◌≤◌, true, false, cond, eqb, List, [], ◌∷◌, ◌++◌, Option, Some, None, refl, sym, ap, ◌∙◌, subst, arith, ◌⊎◌, inl, inr, append-nil}
+use Rattle.std.specs.Prelude.{⊤, option_map, slice_get, Contains}
 use Rattle.std.specs.FinMap.{get}
-use Rattle.std.specs.Str.{bytes_eq}
 use Rattle.std.specs.Cmp.Lexicographic.{bytes_decides}
 use Rattle.std.proofs.lemmas.Bool.{eqb-true, ne_eqb}
 use Rattle.std.proofs.lemmas.List.Elements.{Contains-append_cases}
@@ -16,21 +15,18 @@ use Rattle.stream_fold.specs.declared.config.Config.{Config}
 use Rattle.stream_fold.specs.declared.config.Copies.{Copies}
 use Rattle.stream_fold.specs.declared.config.Copies.TheVariants.{Nothing, Mirror, Sources}
 use Rattle.stream_fold.specs.declared.decision.Decision.{Decision}
-use Rattle.stream_fold.specs.declared.entry.Entry.{Entry}
 use Rattle.stream_fold.specs.Copying.{origin_named}
 use Rattle.stream_fold.specs.Facts.{StreamFacts, facts}
 use Rattle.stream_fold.specs.Histories.{History}
 use Rattle.stream_fold.proofs.FactLemmas.{facts-tell}
 use Rattle.record_codec.specs.declared.records.Rec.{Rec}
-use Rattle.record_codec.specs.declared.records.Rec.TheVariants.{Create, Of}
 use Rattle.replica_ask.specs.Askers.{AskerState, next_attempt, asking, with_phase}
 use Rattle.replica_ask.specs.Filters.{filters_of}
-use Rattle.replica_ask.specs.declared.phase.Phase.{Phase}
 use Rattle.replica_ask.specs.declared.phase.Phase.TheVariants.{Idle, Asking}
 use Rattle.shard_machine.specs.declared.call.ShardCall.{ShardCall}
 use Rattle.shard_machine.specs.declared.call.ShardCall.TheVariants as call
 use Rattle.shard_machine.specs.Logs.{Made, boot, incarnation, live}
-use Rattle.shard_machine.specs.Images.{LogImage, NameFacts, image, image_after, live_in, known_of}
+use Rattle.shard_machine.specs.Images.{LogImage, NameFacts, image_after, live_in, known_of}
 use Rattle.shard_machine.specs.Views.{View, Effect, Copy, Askers, origins_of, node_or, id_of, askers_of, asker_or_new, asker_of, ask_of, ask_start}
 use Rattle.shard_machine.specs.Answers.{addressee, copy_of_asker, decided_by}
 use Rattle.shard_machine.specs.Steps.{Held, view_in}
@@ -39,12 +35,11 @@ use Rattle.run_soundness.specs.Shards.{ShardState, IsGiven}
 use Rattle.run_soundness.specs.Soundness.{IsCopy, asker_at, copy_of}
 use Rattle.run_soundness.proofs.Following.{entry_by, phase_by, asks_again}
 use Rattle.run_soundness.specs.Below.{Laws}
-use Rattle.run_soundness.proofs.Lists.{cons-cases, Contains-none}
 use Rattle.run_soundness.proofs.Logs.{live-push}
 use Rattle.run_soundness.proofs.LogsLegal.{live-ok, fit-keeps}
 use Rattle.run_soundness.proofs.Stamps.{given-on}
 use Rattle.run_soundness.proofs.ShardsCopies.{IsCopyOf, copy-stream, heard-by, heard-copy}
-use Rattle.run_soundness.proofs.ShardsAskers.{stored_at, rest_of, written, copy-one, AskedRow, HeardRow, AskerRow, RowSame, RowIdle, RowAsked, RowHeard, IsAskOf, AskIs, AskersRow}
+use Rattle.run_soundness.proofs.ShardsAskers.{stored_at, rest_of, written, copy-one, AskedRow, HeardRow, AskerRow, RowSame, RowIdle, RowAsked, RowHeard, IsAskOf, AskersRow}
 use Rattle.run_soundness.proofs.ShardsRows.{option_list}
 use Rattle.run_soundness.proofs.ShardsKept.{ShardOk, AnswersOn, ShardOk-answers, row, next_log, log-is, held-image, boot-is}
 

@@ -1,6 +1,6 @@
 -- What a delivery says of the consumer to which its asker is bound.
-use Rattle.std.proofs.Common.{◌≡◌, ℕ, zero, suc, ◌+◌, ◌<◌, ◌≤◌, true, List, [], ◌∷◌, length, Option, Some, None, refl, sym, ap, ◌∙◌, subst, arith, ◌⊎◌, inl, inr}
-use Rattle.std.specs.Prelude.{Contains, slice_get, slice_index_or, IsTrue}
+use Rattle.std.proofs.Common.{◌≡◌, ℕ, zero, suc, ◌+◌, ◌<◌, ◌≤◌, true, List, [], ◌∷◌, length, Some, None, refl, sym, ap, ◌∙◌, subst, arith, ◌⊎◌, inl, inr}
+use Rattle.std.specs.Prelude.{Contains, slice_get, slice_index_or}
 use Rattle.std.proofs.lemmas.Bool.{cases_lt}
 use Rattle.nats_text.specs.declared.message.Message.{Message}
 use Rattle.nats_text.specs.declared.message.Stamp.{Stamp}
@@ -13,11 +13,10 @@ use Rattle.stream_fold.specs.Copying.{origin_named}
 use Rattle.stream_fold.specs.Histories.{History, put, IsHole}
 use Rattle.stream_fold.specs.RowLists.{Rises}
 use Rattle.push_consumer.specs.Chains.{SkipsHoles, chain, next_of}
-use Rattle.push_consumer.specs.declared.wanted.Wanted.{Wanted}
 use Rattle.push_consumer.specs.Sends.{is_wanted}
 use Rattle.shard_machine.specs.Logs.{Made}
 use Rattle.shard_machine.specs.Views.{node_or}
-use Rattle.run_soundness.specs.Shards.{Consumer, ShardState, IsRead}
+use Rattle.run_soundness.specs.Shards.{Consumer, IsRead}
 use Rattle.run_soundness.specs.Worlds.{World, shard_of}
 use Rattle.run_soundness.specs.Soundness.{before_next, or_zero, IsToStore, HasStored, BagRight, IsReading}
 use Rattle.run_soundness.proofs.Growing.{get-some}

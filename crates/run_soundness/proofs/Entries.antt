@@ -1,7 +1,6 @@
 -- What one entry more does to what copies are bound to, have stored and have come to.
-use Rattle.std.proofs.Common.{◌≡◌, ◌≢◌, ℕ, zero, suc, ◌+◌, ◌-◌, ◌<◌, ◌≤◌, max, Bool, true, false, cond, eqb, List, [], ◌∷◌, ◌++◌, Option, Some, None, refl, sym, ap, ◌∙◌, subst, arith, ◌⊎◌, inl, inr, append_assoc, append-nil, map}
-use Rattle.std.specs.Prelude.{Contains, slice_get}
-use Rattle.std.specs.FinMap.{get}
+use Rattle.std.proofs.Common.{◌≡◌, ◌≢◌, ℕ, suc, ◌+◌, ◌-◌, ◌≤◌, Bool, true, false, cond, eqb, List, [], ◌∷◌, ◌++◌, Option, Some, None, refl, sym, ap, ◌∙◌, subst, arith, ◌⊎◌, inl, inr, append_assoc, append-nil, map}
+use Rattle.std.specs.Prelude.{Contains}
 use Rattle.std.proofs.lemmas.Bool.{eqb-true, eq-eqb}
 use Rattle.std.proofs.lemmas.List.{map-append}
 use Rattle.nats_text.specs.declared.message.Message.{Message}
@@ -17,8 +16,8 @@ use Rattle.stream_fold.specs.declared.entry.Entry.{Entry}
 use Rattle.stream_fold.specs.declared.entry.Entry.TheVariants.{Put, Del, Purge, Expire, Bind, Limits}
 use Rattle.stream_fold.specs.declared.entry.Mark.{Mark}
 use Rattle.stream_fold.specs.declared.parts.Binding.{Binding}
-use Rattle.stream_fold.specs.Copying.{bound_by, bindings, binding_at, bound, configured, start_by, start_of, origin_named, copy_start, mark_by, last_mark, mark_or, mark, front, Stored, stored_under, stored_by, stored, marks, PassesBy, IsNoPut}
-use Rattle.stream_fold.specs.Facts.{StreamFacts, facts, mark_by_facts, front_by_facts}
+use Rattle.stream_fold.specs.Copying.{bound_by, bindings, binding_at, bound, start_by, start_of, origin_named, copy_start, mark_by, last_mark, mark_or, mark, front, Stored, stored_under, stored_by, stored, marks, PassesBy, IsNoPut}
+use Rattle.stream_fold.specs.Facts.{facts}
 use Rattle.stream_fold.specs.Fits.{AllFit}
 use Rattle.stream_fold.specs.Histories.{History, with_entry, either, put, put_by, last, number_put, mark_of, stands}
 use Rattle.stream_fold.specs.RowLists.{Rises}

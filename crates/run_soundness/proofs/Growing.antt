@@ -11,7 +11,7 @@ use Rattle.stream_fold.specs.declared.config.Copies.TheVariants.{Nothing, Mirror
 use Rattle.stream_fold.specs.declared.entry.BoundTo.{BoundTo}
 use Rattle.stream_fold.specs.declared.entry.Entry.{Entry}
 use Rattle.stream_fold.specs.Copying.{IsRightStart, MirrorHolds, SourceHolds, copy_start, number_since}
-use Rattle.stream_fold.specs.Histories.{History, with_entry, put, last, kept, NumbersRise}
+use Rattle.stream_fold.specs.Histories.{History, with_entry, last, kept, NumbersRise}
 use Rattle.stream_fold.proofs.Growth.{put-below, RiseFrom-append}
 use Rattle.push_consumer.specs.Chains.{SkipsHoles, chain}
 use Rattle.push_consumer.specs.declared.wanted.Wanted.{Wanted}

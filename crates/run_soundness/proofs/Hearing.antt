@@ -1,5 +1,5 @@
 -- What a heard packet leaves of its copy.
-use Rattle.std.proofs.Common.{◌≡◌, ◌≢◌, ℕ, zero, suc, ◌+◌, ◌-◌, ◌<◌, ◌≤◌, ◌^◌, max, min, Bool, true, false, cond, ◌||◌, ◌&&◌, ltb, leb, eqb, List, [], ◌∷◌, ◌++◌, Option, Some, None, refl, sym, ap, ◌∙◌, subst, arith, ◌⊎◌, inl, inr}
+use Rattle.std.proofs.Common.{◌≡◌, ◌≢◌, ℕ, zero, suc, ◌+◌, ◌-◌, ◌<◌, ◌≤◌, ◌^◌, max, min, Bool, true, false, cond, ◌&&◌, ltb, leb, eqb, List, [], ◌∷◌, ◌++◌, Option, Some, None, refl, sym, ap, ◌∙◌, subst, arith}
 use Rattle.std.specs.Prelude.{Contains, slice_get}
 use Rattle.std.specs.FinMap.{get}
 use Rattle.std.proofs.lemmas.Bool.{leb-false, and_parts, or_parts, eqb-true}
@@ -12,34 +12,32 @@ use Rattle.js_wire.specs.declared.packet.Packet.TheVariants.{Ask, Answer, Refuse
 use Rattle.stream_fold.specs.declared.config.Copies.{Copies}
 use Rattle.stream_fold.specs.declared.config.Copies.TheVariants.{Nothing, Mirror, Sources}
 use Rattle.stream_fold.specs.declared.decision.Decision.{Decision}
-use Rattle.stream_fold.specs.declared.decision.Decision.TheVariants.{Store, Bind, Rebind, Skip, Ignore, AskAgain, Reply, Heard, Refused, Stop}
+use Rattle.stream_fold.specs.declared.decision.Decision.TheVariants.{Store, Rebind, Ignore, Stop}
 use Rattle.stream_fold.specs.declared.decision.Reason.{Reason}
 use Rattle.stream_fold.specs.declared.decision.Reason.TheVariants.{Back, Large, SeqEnd, Old as IsOld, Foreign as IsForeign}
 use Rattle.stream_fold.specs.declared.entry.BoundTo.{BoundTo}
 use Rattle.stream_fold.specs.declared.entry.Entry.{Entry}
 use Rattle.stream_fold.specs.declared.entry.Entry.TheVariants.{Put, Bind as BindEntry}
 use Rattle.stream_fold.specs.Checking.{config_fault, is_mirror}
-use Rattle.stream_fold.specs.Copying.{bound, origin_named, copy_start, marks, mark, PassesBy, MirrorHolds, SourceHolds, NumbersFollow, IsRightStart}
+use Rattle.stream_fold.specs.Copying.{bound, origin_named, copy_start, PassesBy, MirrorHolds, SourceHolds, NumbersFollow, IsRightStart}
 use Rattle.stream_fold.specs.Facts.{facts}
 use Rattle.stream_fold.specs.Fits.{AllFit}
-use Rattle.stream_fold.specs.Histories.{History, with_entry, put, last, NumbersRise}
+use Rattle.stream_fold.specs.Histories.{History, with_entry, last, NumbersRise}
 use Rattle.stream_fold.specs.Publishing.{content_size, capped}
-use Rattle.stream_fold.specs.RowLists.{Rises}
 use Rattle.stream_fold.specs.Sourcing.{via}
 use Rattle.stream_fold.proofs.FactLemmas.{facts-tell}
 use Rattle.record_codec.specs.declared.records.Rec.{Rec}
-use Rattle.push_consumer.specs.Chains.{SkipsHoles, chain}
+use Rattle.push_consumer.specs.Chains.{chain}
 use Rattle.replica_ask.specs.declared.phase.Order.{Order}
 use Rattle.replica_ask.specs.declared.phase.Order.TheVariants.{Next, Old as OldOrder, Foreign as ForeignOrder, Gap as GapOrder, Beat as BeatOrder, FlowAsk as FlowOrder, Answer as AnswerOrder, Refuse as RefuseOrder}
 use Rattle.replica_ask.specs.declared.phase.Phase.{Phase}
 use Rattle.replica_ask.specs.declared.phase.Phase.TheVariants.{Idle, Asking, Bound, Stopped}
-use Rattle.replica_ask.specs.Orders.{order, same_stamp, of_delivery, of_beat}
+use Rattle.replica_ask.specs.Orders.{order, same_stamp, of_delivery}
 use Rattle.mirror_core.specs.Decisions.{mirror_decision, other_decision, of_mirrored, on_mirrored, on_answer, on_beat, is_back, is_large}
 use Rattle.source_core.specs.Decisions.{Reached, source_decision, of_sourced, on_sourced, on_made, at_time}
 use Rattle.shard_machine.specs.Answers.{addressee, decided_by, consumer_named}
 use Rattle.shard_machine.specs.Logs.{Made, made}
-use Rattle.shard_machine.specs.Views.{View, Copy, reached, node_or, asker_of}
-use Rattle.run_soundness.specs.Shards.{Consumer}
+use Rattle.shard_machine.specs.Views.{View, reached, node_or, asker_of}
 use Rattle.run_soundness.specs.Worlds.{World, shard_of}
 use Rattle.run_soundness.specs.Soundness.{IsToStore, HasStored, IsReading, PhaseRight, Holds, HoldsNothing, HoldsBound, HoldsBy, BagRight, copy_of}
 use Rattle.run_soundness.proofs.Deliveries.{delivered, rises-place}

@@ -1,11 +1,10 @@
 -- What shards say of streams and of consumers goes on through each run.
-use Rattle.std.proofs.Common.{◌≡◌, ℕ, ◌<◌, true, false, List, [], ◌∷◌, ◌++◌, refl, sym, ap, ◌∙◌, subst, ◌⊎◌, inl, inr}
+use Rattle.std.proofs.Common.{ℕ, ◌<◌, List, [], ◌∷◌, sym, ap, subst, inl, inr}
 use Rattle.shard_machine.specs.declared.call.ShardCall.{ShardCall}
 use Rattle.shard_machine.specs.declared.reply.ShardReply.{ShardReply}
 use Rattle.shard_machine.specs.declared.reply.ShardRefusal.TheVariants as refusal
 use Rattle.shard_machine.specs.Steps.{refused}
-use Rattle.run_soundness.specs.Shards.{ShardState}
-use Rattle.run_soundness.specs.Worlds.{World, OnlyNode, Calls, Crashes, Begins, Links, Event, Happens, Run}
+use Rattle.run_soundness.specs.Worlds.{World, OnlyNode, Calls, Crashes, Event, Happens, Run}
 use Rattle.run_soundness.specs.Worlds.Event.{Call, Cut, Join, Crash, CrashWithin, Begin}
 use Rattle.run_soundness.proofs.Invariant.{Inv}
 use Rattle.run_soundness.specs.Below.{Laws}

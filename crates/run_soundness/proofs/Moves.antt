@@ -1,5 +1,5 @@
 -- What a copy's own decisions leave.
-use Rattle.std.proofs.Common.{◌≡◌, ◌≢◌, ℕ, zero, suc, ◌+◌, ◌-◌, ◌<◌, ◌≤◌, max, Bool, true, false, cond, leb, eqb, List, [], ◌∷◌, ◌++◌, length, Option, Some, None, refl, sym, ap, ◌∙◌, subst, arith, ◌⊎◌, inl, inr, append-nil}
+use Rattle.std.proofs.Common.{◌≡◌, ℕ, zero, suc, ◌+◌, ◌-◌, ◌<◌, ◌≤◌, max, Bool, true, false, cond, leb, List, [], ◌∷◌, ◌++◌, Option, Some, None, refl, sym, ap, ◌∙◌, subst, arith, ◌⊎◌, inl, inr, append-nil}
 use Rattle.std.specs.Prelude.{Contains, slice_get, All}
 use Rattle.std.proofs.lemmas.Bool.{cases_lt, cases_eq, eq-eqb}
 use Rattle.std.proofs.lemmas.List.Elements.{Contains-append_left, Contains-append_right, Contains-append_cases}
@@ -17,7 +17,7 @@ use Rattle.stream_fold.specs.declared.entry.Entry.{Entry}
 use Rattle.stream_fold.specs.declared.entry.Entry.TheVariants.{Put, Del, Purge, Expire, Bind as BindEntry, Limits}
 use Rattle.stream_fold.specs.declared.entry.Numbered.{Numbered}
 use Rattle.stream_fold.specs.Checking.{config_fault}
-use Rattle.stream_fold.specs.Copying.{bound, bound_by, binding_at, origin_named, copy_start, start_by, marks, mark, mark_or, mark_by, last_mark, stored, front, number_since, Stored, IsVia, IsRightStart, MirrorHolds, SourceHolds, NumbersFollow, AreHolesFrom, AreHolesBetween}
+use Rattle.stream_fold.specs.Copying.{bound, origin_named, copy_start, start_by, marks, mark, mark_or, last_mark, stored, number_since, Stored, IsVia, IsRightStart, MirrorHolds, SourceHolds, NumbersFollow, AreHolesFrom, AreHolesBetween}
 use Rattle.stream_fold.specs.Fits.{AllFit}
 use Rattle.stream_fold.specs.Histories.{History, with_entry, either, put, put_by, last, number_put, kept, NumbersRise}
 use Rattle.stream_fold.specs.RowLists.{Rises, EachRow}
@@ -33,7 +33,7 @@ use Rattle.shard_machine.specs.Views.{node_or, reached, ask_start}
 use Rattle.run_soundness.specs.Shards.{Consumer, IsRead}
 use Rattle.run_soundness.specs.Worlds.{World, shard_of}
 use Rattle.run_soundness.specs.Soundness.{before_next, or_zero, IsToStore, HasStored, IsAwaiting, IsReading, Holds, HoldsNothing, BagRight, copy_of}
-use Rattle.run_soundness.proofs.Entries.{either_none, bound-push, bound-binds, bound-passes, last_mark-push, last_mark-passes, stored-push, marks-store, marks-empty, last-none, put-passes, put-others, last-passes, start-passes, start-positive, start-is, point, reached-is, ask_start-is, asks_from, mark-top}
+use Rattle.run_soundness.proofs.Entries.{either_none, bound-push, bound-binds, bound-passes, last_mark-push, stored-push, marks-store, marks-empty, last-none, put-passes, put-others, last-passes, start-passes, start-positive, start-is, point, reached-is, ask_start-is, asks_from, mark-top}
 use Rattle.run_soundness.proofs.Growing.{get-some}
 use Rattle.run_soundness.proofs.Deliveries.{place_of, rises-low, rises-order, get-lt, left-out}
 use Rattle.run_soundness.specs.Below.{Laws}

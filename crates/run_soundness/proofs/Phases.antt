@@ -1,7 +1,6 @@
 -- What holds of a copy's asker by its phase, as all goes on.
-use Rattle.std.proofs.Common.{◌≡◌, ℕ, suc, ◌+◌, ◌-◌, ◌≤◌, max, List, [], ◌∷◌, ◌++◌, length, Option, Some, None, refl, sym, ap, ◌∙◌, subst, arith, inl, inr, map}
+use Rattle.std.proofs.Common.{◌≡◌, ℕ, suc, ◌+◌, ◌-◌, ◌≤◌, max, List, [], ◌∷◌, ◌++◌, Option, Some, None, refl, sym, ap, ◌∙◌, subst, arith, inl, inr, map}
 use Rattle.std.specs.Prelude.{Contains}
-use Rattle.nats_text.specs.declared.message.Message.{Message}
 use Rattle.nats_text.specs.declared.message.Stamp.{Stamp}
 use Rattle.nats_text.specs.declared.message.Start.{Start}
 use Rattle.nats_text.specs.declared.message.Start.TheVariants.{Seq}
@@ -12,17 +11,16 @@ use Rattle.stream_fold.specs.declared.config.Copies.{Copies}
 use Rattle.stream_fold.specs.declared.config.Copies.TheVariants.{Nothing, Mirror, Sources}
 use Rattle.stream_fold.specs.declared.entry.BoundTo.{BoundTo}
 use Rattle.stream_fold.specs.declared.entry.Entry.{Entry}
-use Rattle.stream_fold.specs.Copying.{bound, marks, mark, mark_or, last_mark, copy_start, start_by, Stored, PassesBy, IsNoPut}
+use Rattle.stream_fold.specs.Copying.{bound, mark_or, last_mark, copy_start, start_by, Stored, PassesBy, IsNoPut}
 use Rattle.stream_fold.specs.Fits.{AllFit}
 use Rattle.stream_fold.specs.Histories.{History, with_entry, last, NumbersRise}
 use Rattle.stream_fold.proofs.KeptRows.{put-positive}
 use Rattle.push_consumer.specs.Chains.{SkipsHoles, chain}
 use Rattle.push_consumer.specs.declared.wanted.Wanted.{Wanted}
-use Rattle.push_consumer.specs.Progress.{ConsumerState}
 use Rattle.replica_ask.specs.declared.phase.Phase.{Phase}
 use Rattle.replica_ask.specs.declared.phase.Phase.TheVariants.{Idle, Asking, Bound, Stopped}
 use Rattle.replica_ask.specs.Filters.{filters_of}
-use Rattle.shard_machine.specs.Logs.{Made, made}
+use Rattle.shard_machine.specs.Logs.{Made}
 use Rattle.shard_machine.specs.Views.{node_or, reached, ask_start}
 use Rattle.run_soundness.specs.Shards.{Consumer, ShardState, IsRead}
 use Rattle.run_soundness.specs.Worlds.{World, shard_of}

@@ -1,5 +1,5 @@
 -- How far a copy has come never falls.
-use Rattle.std.proofs.Common.{◌≡◌, ℕ, ◌+◌, ◌-◌, ◌<◌, ◌≤◌, max, List, [], ◌∷◌, ◌++◌, Option, Some, None, refl, sym, ap, ◌∙◌, subst, arith, ◌⊎◌, inl, inr}
+use Rattle.std.proofs.Common.{◌≡◌, ℕ, ◌-◌, ◌≤◌, max, List, ◌++◌, Option, Some, None, refl, sym, ap, ◌∙◌, subst, arith, inl}
 use Rattle.std.specs.Prelude.{Contains}
 use Rattle.std.proofs.lemmas.List.Elements.{Contains-append_left}
 use Rattle.nats_text.specs.declared.message.Start.{Start}
@@ -9,21 +9,19 @@ use Rattle.stream_fold.specs.declared.config.Config.{Config}
 use Rattle.stream_fold.specs.declared.config.Copies.{Copies}
 use Rattle.stream_fold.specs.declared.config.Copies.TheVariants.{Nothing, Mirror, Sources}
 use Rattle.stream_fold.specs.declared.entry.BoundTo.{BoundTo}
-use Rattle.stream_fold.specs.declared.entry.Entry.{Entry}
-use Rattle.stream_fold.specs.Copying.{bound, origin_named, copy_start, configured, start_by, marks, mark, mark_or, last_mark, front, IsRightStart, SourceHolds}
+use Rattle.stream_fold.specs.Copying.{bound, origin_named, copy_start, configured, start_by, marks, mark, mark_or, last_mark, IsRightStart, SourceHolds}
 use Rattle.stream_fold.specs.Fits.{AllFit}
-use Rattle.stream_fold.specs.Histories.{History, either, last}
+use Rattle.stream_fold.specs.Histories.{History, either}
 use Rattle.stream_fold.specs.RowLists.{Rises}
 use Rattle.shard_machine.specs.Logs.{Made, made}
 use Rattle.run_soundness.specs.Below.{Laws}
 use Rattle.run_soundness.specs.Laws.{NeverBack, NoLess}
 use Rattle.run_soundness.specs.Soundness.{Holds, HoldsNothing, HoldsBound, HoldsBy}
 use Rattle.run_soundness.specs.Worlds.{World, Event, Run, IsEmpty}
-use Rattle.run_soundness.proofs.Entries.{bound-append, marks-append, marks-empty, last-in, mark-top, mark-above, start-is, start-positive}
+use Rattle.run_soundness.proofs.Entries.{bound-append, marks-append, marks-empty, last-in, mark-top, mark-above, start-is}
 use Rattle.run_soundness.proofs.Histories.{GoesOn, last-on}
 use Rattle.run_soundness.proofs.Invariant.{Inv}
 use Rattle.run_soundness.proofs.Lasting.{run-grows}
-use Rattle.run_soundness.proofs.Logs.{StreamGrows}
 use Rattle.run_soundness.proofs.Runs.{Inv-empty, Inv-run}
 use Rattle.run_soundness.proofs.Wanting.{mirror-origin}
 

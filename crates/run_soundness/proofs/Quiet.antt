@@ -1,5 +1,5 @@
 -- Loads, refusals and faults, seen from the world.
-use Rattle.std.proofs.Common.{◌≡◌, ◌≢◌, ℕ, ◌+◌, ◌<◌, ◌≤◌, Bool, true, false, List, [], ◌∷◌, ◌++◌, Option, Some, None, refl, sym, ap, ◌∙◌, subst, arith, ◌⊎◌, inl, inr, append_assoc, append-nil, option_map}
+use Rattle.std.proofs.Common.{◌≡◌, ℕ, ◌+◌, ◌≤◌, Bool, true, false, List, [], ◌∷◌, ◌++◌, Option, Some, None, refl, sym, ap, ◌∙◌, subst, arith, inl, inr, append_assoc, append-nil, option_map}
 use Rattle.std.specs.Prelude.{⊤, Contains, IsTrue}
 use Rattle.std.specs.FinMap.{get, empty, get-empty}
 use Rattle.std.specs.Ordering.{nat_cmp}
@@ -13,7 +13,7 @@ use Rattle.js_wire.specs.declared.packet.Packet.{Packet}
 use Rattle.js_wire.specs.declared.packet.Packet.TheVariants.{Ask, Answer, Refuse, Delivery, Beat, FlowAsk, FlowReply}
 use Rattle.stream_fold.specs.Histories.{History}
 use Rattle.record_codec.specs.declared.records.Rec.{Rec}
-use Rattle.record_codec.specs.declared.records.Rec.TheVariants.{Boot, Create, Remove, Of}
+use Rattle.record_codec.specs.declared.records.Rec.TheVariants.{Boot, Create, Of}
 use Rattle.replica_ask.specs.Askers.{AskerState, new_asker}
 use Rattle.replica_ask.specs.declared.phase.Phase.{Phase}
 use Rattle.replica_ask.specs.declared.phase.Phase.TheVariants.{Idle}
@@ -21,22 +21,22 @@ use Rattle.shard_machine.specs.declared.call.ShardCall.{ShardCall}
 use Rattle.shard_machine.specs.declared.call.ShardCall.TheVariants as call
 use Rattle.shard_machine.specs.declared.reply.ShardRefusal.{ShardRefusal}
 use Rattle.shard_machine.specs.declared.reply.ShardRefusal.TheVariants as refusal
-use Rattle.shard_machine.specs.Images.{LogImage, image, image_after}
-use Rattle.shard_machine.specs.Logs.{Made, boot, made}
-use Rattle.shard_machine.specs.Views.{Askers, StreamAskers, askers_of, asker_or_new, idle_askers}
-use Rattle.shard_machine.specs.Steps.{Held, IsSettled, IsReady, next_boot, may_open, end_after, refused_packets, refusal_packets, refuse_with}
+use Rattle.shard_machine.specs.Images.{LogImage, image_after}
+use Rattle.shard_machine.specs.Logs.{boot}
+use Rattle.shard_machine.specs.Views.{Askers, StreamAskers, asker_or_new, idle_askers}
+use Rattle.shard_machine.specs.Steps.{Held, IsSettled, next_boot, end_after, refused_packets, refusal_packets, refuse_with}
 use Rattle.shard_machine.proofs.Images.{images-tell}
 use Rattle.run_soundness.specs.Shards.{Consumer, ShardState, IsGiven, LoadsOn, RestsOn}
-use Rattle.run_soundness.specs.Worlds.{World, shard_of}
-use Rattle.run_soundness.specs.Soundness.{asker_at, names_consumer, SaysOf, IsCopy, PhaseRight}
-use Rattle.run_soundness.proofs.Invariant.{OneAsk, GivenIn, Future, StreamsOk, StoredOk, IsHere, Inv, MadeNow, RowOk, PhaseAfter}
+use Rattle.run_soundness.specs.Worlds.{World}
+use Rattle.run_soundness.specs.Soundness.{asker_at, names_consumer, IsCopy, PhaseRight}
+use Rattle.run_soundness.proofs.Invariant.{Future, StreamsOk, StoredOk, IsHere, Inv, RowOk}
 use Rattle.run_soundness.specs.Below.{Laws}
 use Rattle.run_soundness.proofs.Lists.{Contains-none, Contains-one}
 use Rattle.run_soundness.proofs.Logs.{boot-push, hist-push}
 use Rattle.run_soundness.proofs.ShardsAskers.{rest_of, stored_at, stored-idle}
-use Rattle.run_soundness.proofs.ShardsGrow.{Later, Later-refl, ShardGrows, grows-same, grows-loads, grows-rests, grows-fails}
+use Rattle.run_soundness.proofs.ShardsGrow.{Later-refl, ShardGrows, grows-same, grows-loads, grows-rests, grows-fails}
 use Rattle.run_soundness.proofs.ShardsKept.{ShardOk, image-with}
-use Rattle.run_soundness.proofs.ShardsSteps.{ReadyOn, FailsOn, Settled, settled-as, boot-settled, ShardOk-loads, ShardOk-ready, ShardOk-rests, ShardOk-fails}
+use Rattle.run_soundness.proofs.ShardsSteps.{ReadyOn, FailsOn, Settled, settled-as, boot-settled, ShardOk-loads, ShardOk-rests, ShardOk-fails}
 use Rattle.run_soundness.proofs.Stamps.{given-later, given-same}
 
 -- ---- packets that are of no asker's and no consumer's

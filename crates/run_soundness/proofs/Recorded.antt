@@ -1,6 +1,6 @@
 -- Which records an answer makes: a stream, its end, a client's entry, or the entry of a copy's decision.
-use Rattle.std.proofs.Common.{◌≡◌, ◌≢◌, ℕ, ◌+◌, max, Bool, true, false, cond, ◌==◌, leb, List, [], ◌∷◌, length, Option, Some, None, Result, Ok, Err, refl, sym, ap, ◌∙◌, subst, ◌⊎◌, inl, inr, count_by}
-use Rattle.std.specs.Prelude.{⊤, filter}
+use Rattle.std.proofs.Common.{◌≡◌, ℕ, ◌+◌, max, Bool, true, false, cond, ◌==◌, leb, List, [], ◌∷◌, Option, Some, None, Result, Ok, Err, refl, sym, ap, ◌∙◌, subst, ◌⊎◌, inl, inr, count_by}
+use Rattle.std.specs.Prelude.{⊤}
 use Rattle.std.specs.List.{find}
 use Rattle.nats_text.specs.declared.message.Message.{Message}
 use Rattle.nats_text.specs.declared.message.Stamp.{Stamp}
@@ -11,11 +11,11 @@ use Rattle.js_wire.specs.declared.packet.Packet.{Packet}
 use Rattle.js_wire.specs.declared.packet.Packet.TheVariants.{Ask, Answer, Refuse, Delivery, Beat, FlowAsk, FlowReply}
 use Rattle.stream_fold.specs.declared.config.Config.{Config}
 use Rattle.stream_fold.specs.declared.config.Copies.{Copies}
-use Rattle.stream_fold.specs.declared.config.Copies.TheVariants.{Nothing, Mirror, Sources}
+use Rattle.stream_fold.specs.declared.config.Copies.TheVariants.{Mirror}
 use Rattle.stream_fold.specs.declared.decision.Decision.{Decision}
 use Rattle.stream_fold.specs.declared.decision.Decision.TheVariants.{Store, Bind as Binds, Rebind, Skip, Ignore, AskAgain, Reply, Heard as Hears, Refused as IsRefused, Stop}
 use Rattle.stream_fold.specs.declared.entry.Entry.{Entry}
-use Rattle.stream_fold.specs.declared.entry.Entry.TheVariants.{Put, Del, Purge, Expire, Bind, Limits}
+use Rattle.stream_fold.specs.declared.entry.Entry.TheVariants.{Put, Del, Purge, Expire, Limits}
 use Rattle.stream_fold.specs.declared.entry.Numbered.{Numbered}
 use Rattle.stream_fold.specs.declared.verdict.Refusal.{Refusal}
 use Rattle.stream_fold.specs.declared.verdict.Refusal.TheVariants.{IsMirror}
@@ -23,12 +23,11 @@ use Rattle.stream_fold.specs.declared.verdict.Verdict.{Verdict}
 use Rattle.stream_fold.specs.declared.verdict.Verdict.TheVariants.{Fresh, Duplicate as IsDuplicate}
 use Rattle.stream_fold.specs.Checking.{config_fault, is_mirror}
 use Rattle.stream_fold.specs.Copying.{PassesBy, IsNoPut}
-use Rattle.stream_fold.specs.Facts.{StreamFacts, verdict_by_facts}
+use Rattle.stream_fold.specs.Facts.{verdict_by_facts}
 use Rattle.stream_fold.specs.Histories.{is_purged, is_expired, message_at}
 use Rattle.stream_fold.specs.Publishing.{verdict_behind, header_refusal, bad_header}
 use Rattle.push_consumer.specs.declared.wanted.Wanted.{Wanted}
 use Rattle.push_consumer.specs.Progress.{ConsumerState}
-use Rattle.replica_ask.specs.declared.phase.Phase.{Phase}
 use Rattle.source_core.specs.Decisions.{at_time}
 use Rattle.record_codec.specs.declared.records.Rec.{Rec}
 use Rattle.record_codec.specs.declared.records.Rec.TheVariants.{Boot, Create, Remove, Of}
@@ -40,7 +39,7 @@ use Rattle.shard_machine.specs.declared.reply.Outcome.TheVariants as outcome
 use Rattle.shard_machine.specs.declared.reply.ShardRefusal.TheVariants as refusal
 use Rattle.shard_machine.specs.Images.{NameFacts, live_in}
 use Rattle.shard_machine.specs.Views.{View, Effect, Copy, asker_of, reads, writes}
-use Rattle.shard_machine.specs.Answers.{Answered, Answers, Creates, CreatesAgain, creates, Updates, removes, publishes, publishes_by, takes_subject, transformed, deletes, takes, purges, below_or_all, expires, gets, row_by, informs, makes, makes_asked, makes_for, makes_consumer, is_earlier, serves, consumer_start, reads_stream, pumps, takes_reply, takes_at, reaches, addressee, copy_of_asker, decided_by, follows, hears}
+use Rattle.shard_machine.specs.Answers.{Answered, Answers, Creates, creates, Updates, removes, publishes, publishes_by, takes_subject, transformed, deletes, takes, purges, below_or_all, expires, gets, row_by, informs, makes, makes_asked, makes_for, makes_consumer, is_earlier, serves, consumer_start, reads_stream, pumps, takes_reply, takes_at, reaches, addressee, copy_of_asker, decided_by, follows, hears}
 use Rattle.run_soundness.proofs.Following.{entry_by}
 
 -- an entry that no copy of its stream stores

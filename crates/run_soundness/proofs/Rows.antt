@@ -1,15 +1,11 @@
 -- An answer of a shard, seen from the world.
-use Rattle.std.proofs.Common.{◌≡◌, ◌≢◌, ℕ, zero, suc, ◌+◌, ◌-◌, ◌<◌, ◌≤◌, Bool, true, false, List, [], ◌∷◌, ◌++◌, Option, Some, None, refl, sym, ap, ◌∙◌, subst, arith, ◌⊎◌, inl, inr, append-nil, append_assoc, map}
-use Rattle.std.specs.Prelude.{Contains, IsTrue, All, Ok}
+use Rattle.std.proofs.Common.{◌≡◌, ℕ, ◌-◌, ◌≤◌, true, false, List, [], ◌∷◌, ◌++◌, Option, Some, None, refl, sym, ap, ◌∙◌, subst, ◌⊎◌, inl, inr, append-nil, append_assoc, map}
+use Rattle.std.specs.Prelude.{Contains, All, Ok}
 use Rattle.std.specs.Cmp.Lexicographic.{bytes_decides}
 use Rattle.std.proofs.lemmas.Bool.{eqb-true, cases_eq}
-use Rattle.nats_text.specs.declared.message.Message.{Message}
-use Rattle.nats_text.specs.declared.message.Stamp.{Stamp}
-use Rattle.nats_text.specs.declared.message.Start.{Start}
 use Rattle.nats_text.specs.declared.origin.Origin.{Origin}
 use Rattle.js_wire.specs.declared.packet.AskerId.{AskerId}
 use Rattle.js_wire.specs.declared.packet.Packet.{Packet}
-use Rattle.js_wire.specs.declared.packet.Packet.TheVariants.{Ask}
 use Rattle.stream_fold.specs.declared.config.Config.{Config}
 use Rattle.stream_fold.specs.declared.config.Copies.{Copies}
 use Rattle.stream_fold.specs.declared.config.Copies.TheVariants.{Nothing, Mirror, Sources}
@@ -18,47 +14,41 @@ use Rattle.stream_fold.specs.declared.decision.Decision.TheVariants.{Store, Bind
 use Rattle.stream_fold.specs.declared.entry.BoundTo.{BoundTo}
 use Rattle.stream_fold.specs.declared.entry.Entry.{Entry}
 use Rattle.stream_fold.specs.Checking.{config_fault, is_mirror}
-use Rattle.stream_fold.specs.Copying.{bound, origin_named, copy_start, marks, mark, mark_or, last_mark, stored, Stored, PassesBy, IsNoPut, IsVia, MirrorHolds, SourceHolds, NumbersFollow}
+use Rattle.stream_fold.specs.Copying.{bound, origin_named, copy_start, marks, mark, mark_or, last_mark, stored, Stored, PassesBy, IsVia, MirrorHolds, SourceHolds, NumbersFollow}
 use Rattle.stream_fold.specs.Facts.{facts}
 use Rattle.stream_fold.specs.Fits.{AllFit}
-use Rattle.stream_fold.specs.Histories.{History, with_entry, put, IsHole}
+use Rattle.stream_fold.specs.Histories.{History, with_entry}
 use Rattle.stream_fold.specs.RowLists.{Rises}
-use Rattle.stream_fold.specs.Sourcing.{via}
 use Rattle.stream_fold.proofs.FactLemmas.{facts-tell}
 use Rattle.record_codec.specs.declared.records.Rec.{Rec}
 use Rattle.record_codec.specs.declared.records.Rec.TheVariants.{Boot, Create, Remove, Of}
 use Rattle.replica_ask.specs.Askers.{AskerState}
 use Rattle.replica_ask.specs.declared.phase.Phase.{Phase}
-use Rattle.replica_ask.specs.declared.phase.Phase.TheVariants.{Idle, Asking}
 use Rattle.shard_machine.specs.declared.call.ShardCall.{ShardCall}
 use Rattle.shard_machine.specs.declared.call.ShardCall.TheVariants as call
-use Rattle.shard_machine.specs.Images.{NameFacts, live_in, known_of}
+use Rattle.shard_machine.specs.Images.{NameFacts, live_in}
 use Rattle.shard_machine.specs.Legal.{MayFollow, MayAllFollow, IsLegal}
-use Rattle.shard_machine.specs.Logs.{Made, boot, incarnation, made, live, with_change}
+use Rattle.shard_machine.specs.Logs.{Made, incarnation, made, live, with_change}
 use Rattle.shard_machine.specs.Views.{View, Effect, Copy, asker_or_new, asker_of, id_of}
-use Rattle.shard_machine.specs.Answers.{Answers, addressee, copy_of_asker, decided_by, hears, follows}
-use Rattle.shard_machine.specs.Steps.{Held, view_in}
-use Rattle.run_soundness.specs.Shards.{Consumer, ShardState, IsGiven, IsRead, sent_now, delivered}
-use Rattle.run_soundness.specs.Worlds.{World, shard_of, MayCall, IsAtAsker}
+use Rattle.shard_machine.specs.Answers.{Answers, addressee, copy_of_asker, decided_by}
+use Rattle.shard_machine.specs.Steps.{view_in}
+use Rattle.run_soundness.specs.Shards.{ShardState}
+use Rattle.run_soundness.specs.Worlds.{World, shard_of, MayCall}
 use Rattle.run_soundness.specs.Soundness.{asker_at, IsCopy, copy_of, PhaseRight, Holds, HoldsNothing, HoldsBy}
-use Rattle.run_soundness.proofs.Asked.{AskersOk, AsksOk, HasAsked, HasHeard, AskerAfter, copy-here, asker-after, made-asks, askers-ok-after, own-asks, asks-after}
+use Rattle.run_soundness.proofs.Asked.{copy-here}
 use Rattle.run_soundness.proofs.Entries.{bound-passes, stored-passes, put-passes, start-passes, last_mark-passes}
 use Rattle.run_soundness.proofs.Following.{entry_by, phase_by, asks_again}
 use Rattle.run_soundness.proofs.Hearing.{HearOk, Before, with_maybe, hears as hears-packet}
-use Rattle.run_soundness.proofs.Invariant.{Future, HistOk, StreamsOk, StoredOk, IsHere, Inv, MadeNow, RowOk, PhaseAfter}
+use Rattle.run_soundness.proofs.Invariant.{HistOk, StreamsOk, IsHere, Inv}
 use Rattle.run_soundness.specs.Below.{Laws}
-use Rattle.run_soundness.proofs.Logs.{AddsEntry, MakesHistory, LiveAdds, LiveMakes, hist-push, live-push, live-is, live-entry}
+use Rattle.run_soundness.proofs.Logs.{AddsEntry, hist-push, live-is}
 use Rattle.run_soundness.proofs.LogsLegal.{LogOk, MadeOk, live-ok, fit-keeps}
-use Rattle.run_soundness.proofs.Phases.{some_same, BothFit, PassesCopy, phase-passes}
-use Rattle.run_soundness.proofs.Quiet.{future-none}
-use Rattle.run_soundness.proofs.Recorded.{IsClient, ClientWrites, HeardWrites, RecordsOk, records-ok}
-use Rattle.run_soundness.proofs.ShardsAsked.{came-asked}
-use Rattle.run_soundness.proofs.ShardsAskers.{stored_at, with_asker-own}
+use Rattle.run_soundness.proofs.Phases.{some_same, BothFit, PassesCopy}
+use Rattle.run_soundness.proofs.Recorded.{IsClient, HeardWrites, RecordsOk, records-ok}
+use Rattle.run_soundness.proofs.ShardsAskers.{stored_at}
 use Rattle.run_soundness.proofs.ShardsCopies.{heard-by, copy-stream}
-use Rattle.run_soundness.proofs.ShardsGrow.{Later, chain-now, grows-answers}
-use Rattle.run_soundness.proofs.ShardsKept.{ShardOk, AnswersOn, ShardOk-answers, before}
+use Rattle.run_soundness.proofs.ShardsKept.{ShardOk, before}
 use Rattle.run_soundness.proofs.ShardsRows.{live-known}
-use Rattle.run_soundness.proofs.ShardsSay.{says-answers}
 use Rattle.run_soundness.proofs.Wanting.{mirror-origin}
 
 -- ---- what a copy holds outlasts an entry that it passes over

@@ -1,40 +1,30 @@
 -- Each event keeps the invariant, and so does each run: every run is sound.
-use Rattle.std.proofs.Common.{◌≡◌, ◌≢◌, ℕ, zero, suc, ◌<◌, Bool, true, false, List, [], ◌∷◌, ◌++◌, Option, Some, None, refl, sym, ap, ◌∙◌, subst, ◌⊎◌, inl, inr, append-nil}
-use Rattle.std.specs.Prelude.{Contains, IsTrue, Ok}
+use Rattle.std.proofs.Common.{◌≡◌, ℕ, zero, suc, ◌<◌, Bool, true, false, List, [], ◌∷◌, ◌++◌, Some, None, refl, sym, ap, ◌∙◌, subst, inl, inr, append-nil}
+use Rattle.std.specs.Prelude.{Contains}
 use Rattle.std.proofs.lemmas.List.Elements.{Contains-append_left, Contains-append_right}
-use Rattle.nats_text.specs.declared.message.Stamp.{Stamp}
-use Rattle.nats_text.specs.declared.message.Start.{Start}
-use Rattle.nats_text.specs.declared.origin.Origin.{Origin}
-use Rattle.js_wire.specs.declared.packet.AskerId.{AskerId}
 use Rattle.js_wire.specs.declared.packet.Packet.{Packet}
 use Rattle.js_wire.specs.declared.packet.Packet.TheVariants.{Ask}
-use Rattle.stream_fold.specs.Copying.{bound, origin_named, NumbersFollow}
-use Rattle.stream_fold.specs.Checking.{is_mirror}
-use Rattle.stream_fold.specs.Histories.{History}
 use Rattle.record_codec.specs.declared.records.Rec.{Rec}
 use Rattle.replica_ask.specs.Askers.{AskerState}
-use Rattle.replica_ask.specs.declared.phase.Phase.TheVariants.{Idle}
 use Rattle.shard_machine.specs.declared.call.ShardCall.{ShardCall}
 use Rattle.shard_machine.specs.declared.reply.ShardReply.{ShardReply}
 use Rattle.shard_machine.specs.declared.reply.ShardRefusal.TheVariants as refusal
 use Rattle.shard_machine.specs.Logs.{Made, boot, made, live, named_after}
-use Rattle.shard_machine.specs.Views.{Effect, Askers}
 use Rattle.shard_machine.specs.Steps.{Held, refused, refused_packets}
-use Rattle.run_soundness.specs.Shards.{Consumer, ShardState, IsGiven, IsNewShard, Moves, LoadsOn, RestsOn}
+use Rattle.run_soundness.specs.Shards.{Consumer, ShardState, IsGiven, IsNewShard}
 use Rattle.run_soundness.specs.Worlds.{World, shard_of, MayCall, OnlyShard, OnlyNode, Calls, Crashes, Begins, Links, Event, Happens, Run, IsEmpty}
 use Rattle.run_soundness.specs.Worlds.Event.{Call, Cut, Join, Crash, CrashWithin, Begin}
-use Rattle.run_soundness.specs.Soundness.{asker_at, IsCopy, LogHolds, Sound}
+use Rattle.run_soundness.specs.Soundness.{asker_at, Sound}
 use Rattle.run_soundness.proofs.Answering.{row-answers}
-use Rattle.run_soundness.proofs.Invariant.{OneAsk, GivenIn, Future, StreamsOk, StoredOk, IsHere, Inv, RowIn, StepOk, Inv-step, row-same, RowOk, OneMoves, Inv-one, with_shard, with-here, with-else, with-bag, with-nodes}
+use Rattle.run_soundness.proofs.Invariant.{OneAsk, Future, StreamsOk, Inv, RowIn, Inv-step, row-same, Inv-one, with_shard, with-here, with-else, with-bag, with-nodes}
 use Rattle.run_soundness.specs.Below.{Laws}
 use Rattle.run_soundness.proofs.Lists.{Contains-none, Contains-head}
 use Rattle.run_soundness.proofs.LogsLegal.{LogOk, LogOk-push}
-use Rattle.run_soundness.proofs.Quiet.{AreQuiet, quiet-nil, quiet-refused, QuietOk, row-quiet, quiet-same, quiet-loads, quiet-rests, quiet-fails, ready-quiet, rest-phase, rest-attempts, idle-right, new-asker, none-stored}
+use Rattle.run_soundness.proofs.Quiet.{AreQuiet, quiet-nil, quiet-refused, QuietOk, row-quiet, quiet-same, quiet-loads, quiet-rests, quiet-fails, ready-quiet, rest-phase, rest-attempts, idle-right, new-asker}
 use Rattle.run_soundness.proofs.Rows.{next-streams}
-use Rattle.run_soundness.proofs.ShardsAskers.{stored_at}
 use Rattle.run_soundness.proofs.ShardsGrow.{Later-refl, grows-faults}
 use Rattle.run_soundness.proofs.ShardsKept.{ShardOk, AnswersOn}
-use Rattle.run_soundness.proofs.ShardsSteps.{ReadyOn, FaultsOn, FailsOn, Answered, TurnedDown, Failed, Came, ShardOk-ready, ShardOk-faults, ShardOk-empty, doubtful-may, moves-came}
+use Rattle.run_soundness.proofs.ShardsSteps.{ReadyOn, FaultsOn, Answered, Came, ShardOk-ready, ShardOk-faults, ShardOk-empty, doubtful-may, moves-came}
 use Rattle.run_soundness.proofs.ShardsSteps.Came.{Fine, Down, Fault}
 
 -- ---- a disk that failed while a record was appended

@@ -13,20 +13,18 @@ use Rattle.js_wire.specs.declared.packet.Packet.{Packet}
 use Rattle.js_wire.specs.declared.packet.Packet.TheVariants.{Ask, Answer, Refuse, Delivery, Beat, FlowAsk, FlowReply}
 use Rattle.stream_fold.specs.declared.config.Config.{Config}
 use Rattle.stream_fold.specs.declared.decision.Decision.{Decision}
-use Rattle.stream_fold.specs.declared.decision.Decision.TheVariants.{Store, Bind as Binds, Rebind, Skip, Ignore, AskAgain, Reply, Heard as Hears, Refused as IsRefused, Stop}
 use Rattle.stream_fold.specs.declared.entry.Entry.{Entry}
 use Rattle.stream_fold.specs.Facts.{StreamFacts}
 use Rattle.stream_fold.proofs.FactLemmas.{at_index, at_text}
 use Rattle.record_codec.specs.declared.records.Rec.{Rec}
 use Rattle.record_codec.specs.declared.records.Rec.TheVariants.{Create, Of}
-use Rattle.replica_ask.specs.Askers.{AskerState, with_phase, asking, took_phase, bound_phase, heard_phase}
-use Rattle.replica_ask.specs.declared.phase.Phase.{Phase}
-use Rattle.replica_ask.specs.declared.phase.Phase.TheVariants.{Idle, Stopped as IsStopped}
+use Rattle.replica_ask.specs.Askers.{AskerState, with_phase, asking}
+use Rattle.replica_ask.specs.declared.phase.Phase.TheVariants.{Idle}
 use Rattle.shard_machine.specs.declared.call.ShardCall.{ShardCall}
 use Rattle.shard_machine.specs.declared.call.ShardCall.TheVariants as call
 use Rattle.shard_machine.specs.Images.{LogImage, NameFacts, live_in, image_after}
 use Rattle.shard_machine.specs.Views.{View, Effect, Askers, StreamAskers, Copy, origins_of, askers_of, with_asker, all_idle, idle_askers, idle_under, asker_of, ask_of, with_asked, with_all_asked}
-use Rattle.shard_machine.specs.Answers.{addressee, copy_of_asker, decided_by, consumer_named}
+use Rattle.shard_machine.specs.Answers.{addressee, copy_of_asker, decided_by}
 use Rattle.run_soundness.proofs.Following.{entry_by, phase_by, asks_again}
 use Rattle.run_soundness.proofs.Lists.{cons-cases, Contains-none, Contains-head, Contains-tail}
 use Rattle.run_soundness.proofs.ShardsCopies.{IsCopyOf}

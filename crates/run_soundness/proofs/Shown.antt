@@ -1,5 +1,5 @@
 -- What is shown of a world is enough: an event leads from it to the same again.
-use Rattle.std.proofs.Common.{◌≡◌, ℕ, ◌<◌, Bool, true, false, cond, ◌&&◌, eqb, ltb, List, [], ◌∷◌, ◌++◌, Option, Some, None, refl, sym, ap, ◌∙◌, subst, ◌⊎◌, inl, inr, append-nil}
+use Rattle.std.proofs.Common.{◌≡◌, ℕ, ◌<◌, Bool, true, false, ◌&&◌, eqb, ltb, List, [], ◌∷◌, ◌++◌, refl, sym, ap, ◌∙◌, subst, ◌⊎◌, inl, inr, append-nil}
 use Rattle.std.specs.Prelude.{Contains}
 use Rattle.std.specs.Str.{bytes_eq}
 use Rattle.std.specs.Cmp.Lexicographic.{bytes_decides}
@@ -12,8 +12,8 @@ use Rattle.shard_machine.specs.declared.reply.ShardRefusal.TheVariants as refusa
 use Rattle.shard_machine.specs.Steps.{Held, Loads, Step, refused}
 use Rattle.shard_machine.specs.Views.{idle_askers}
 use Rattle.run_soundness.specs.Shards.{Consumer, ShardState, Moves, LoadsOn, RestsOn, ever_after}
-use Rattle.run_soundness.specs.Worlds.{World, Event, Call, Cut, Join, Crash, CrashWithin, Begin, MayCall, Calls, CrashesWithin, Crashes, Begins, Links, OnlyShard, OnlyNode, Happens}
-use Rattle.run_soundness.specs.Laws.{ShowsSame, TakesFrom, LeadsAlike, ShownIsEnough}
+use Rattle.run_soundness.specs.Worlds.{World, Call, Cut, Join, Crash, CrashWithin, Begin, MayCall, Calls, Crashes, Begins, Links, OnlyNode}
+use Rattle.run_soundness.specs.Laws.{ShowsSame, ShownIsEnough}
 
 -- a world with these shards that shows the same as another one then
 abbrev world_of : (List ℕ → ℕ → ShardState) → World → List Packet → World

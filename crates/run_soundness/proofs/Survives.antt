@@ -1,9 +1,7 @@
 -- What was acknowledged stays in the log.
-use Rattle.std.proofs.Common.{◌≡◌, ℕ, ◌+◌, max, Bool, true, false, cond, eqb, leb, List, [], ◌∷◌, ◌++◌, length, Option, Some, None, refl, sym, ap, ◌∙◌, subst, ◌⊎◌, inl, inr, append_assoc, append-nil}
-use Rattle.std.specs.Prelude.{Contains, Result, Ok, Err, count_by}
-use Rattle.std.specs.Str.{bytes_eq}
+use Rattle.std.proofs.Common.{◌≡◌, ℕ, ◌+◌, max, Bool, true, false, cond, eqb, leb, List, [], ◌∷◌, ◌++◌, length, Option, Some, None, refl, sym, ap, ◌∙◌, subst, ◌⊎◌, inl, inr, append_assoc}
+use Rattle.std.specs.Prelude.{Result, Ok, Err, count_by}
 use Rattle.std.specs.List.{find}
-use Rattle.std.proofs.lemmas.List.Elements.{Contains-append_left, Contains-append_right}
 use Rattle.nats_text.specs.declared.message.Message.{Message}
 use Rattle.nats_text.specs.declared.message.Stamp.{Stamp}
 use Rattle.nats_text.specs.declared.message.Start.{Start}
@@ -41,14 +39,13 @@ use Rattle.shard_machine.specs.Images.{NameFacts, live_in, live_names}
 use Rattle.shard_machine.specs.Views.{View, Effect, Copy, reads, writes, asker_of}
 use Rattle.shard_machine.specs.Answers.{Answered, Answers, Creates, creates, Updates, removes, reads_stream, serves, is_earlier, consumer_start, makes_consumer, ticks, publishes, publishes_by, takes_subject, transformed, deletes, purges, expires, below_or_all, gets, row_by, informs, makes, makes_asked, makes_for, pumps, takes_at, takes_reply, reaches, hears, follows, addressee, copy_of_asker, decided_by}
 use Rattle.shard_machine.specs.Steps.{Held, IsReady, IsSettled, LacksRoom, LacksRoomToLoad, StaysOrLoads, Faults, FailsToLoad, Refuses, StepTo, view_in}
-use Rattle.run_soundness.specs.Shards.{ShardState, Moves}
-use Rattle.run_soundness.specs.Worlds.{World}
+use Rattle.run_soundness.specs.Shards.{ShardState}
 use Rattle.run_soundness.specs.Worlds.Event.{Call}
 use Rattle.run_soundness.specs.Below.{Laws}
-use Rattle.run_soundness.specs.Laws.{IsAccepted, stream_of, written_to, Survives, OnlyLoads, Lasts, AcknowledgedSurvives}
+use Rattle.run_soundness.specs.Laws.{IsAccepted, stream_of, written_to, Survives, OnlyLoads, AcknowledgedSurvives}
 use Rattle.run_soundness.proofs.Invariant.{Inv}
 use Rattle.run_soundness.proofs.Lasting.{run-grows}
-use Rattle.run_soundness.proofs.Logs.{StreamGrows, live-is, live-entry}
+use Rattle.run_soundness.proofs.Logs.{live-is, live-entry}
 use Rattle.run_soundness.proofs.LogsLegal.{MayStand}
 use Rattle.run_soundness.proofs.Runs.{Inv-event, Inv-run, Inv-empty}
 use Rattle.run_soundness.proofs.ShardsGrow.{ShardGrows}

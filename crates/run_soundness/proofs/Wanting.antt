@@ -1,6 +1,6 @@
 -- What a copy stores was wanted of its origin, since the configuration of a stream has no fault.
-use Rattle.std.proofs.Common.{◌≡◌, ℕ, zero, suc, ◌<◌, Bool, true, false, cond, not, ◌&&◌, ◌||◌, ltb, eqb, codes, List, [], ◌∷◌, length, map, filter, Option, Some, None, is_some, refl, sym, ap, ◌∙◌, subst, arith, ◌⊎◌, inl, inr}
-use Rattle.std.specs.Prelude.{slice_get, IsTrue}
+use Rattle.std.proofs.Common.{◌≡◌, ℕ, zero, suc, Bool, true, false, cond, not, ◌&&◌, ◌||◌, ltb, eqb, codes, List, [], ◌∷◌, length, Option, Some, None, is_some, refl, sym, subst, arith}
+use Rattle.std.specs.Prelude.{slice_get}
 use Rattle.std.specs.List.{list_any, list_all}
 use Rattle.std.proofs.lemmas.Bool.{and_parts, or_parts, or_left, or_right, eqb-true, ltb-false}
 use Rattle.nats_text.specs.Matching.{matches}
@@ -14,7 +14,7 @@ use Rattle.stream_fold.specs.declared.config.Copies.TheVariants.{Nothing, Mirror
 use Rattle.stream_fold.specs.Checking.{wrong_if, config_fault, copies_fault, limits_fault, has_wrong_subjects, has_wrong_window, is_wrong_mirror, is_wrong_transform, start_fault, source_fault, source_faults, has_wrong_maps, are_wrong_sources, mirror_fault, is_legal_map, has_short_texts, are_transform, leaves_subject, keeps_all_sizes}
 use Rattle.stream_fold.specs.Copying.{origin_named}
 use Rattle.stream_fold.specs.Histories.{either}
-use Rattle.stream_fold.specs.Sourcing.{Route, route, route_by_filter, route_by_map, route_by_maps, sourced, via}
+use Rattle.stream_fold.specs.Sourcing.{Route, route, route_by_map, route_by_maps, sourced, via}
 use Rattle.push_consumer.specs.Sends.{is_wanted}
 use Rattle.replica_ask.specs.Filters.{filters_by, filters_of, sources_of}
 use Rattle.run_soundness.specs.Soundness.{IsToStore}

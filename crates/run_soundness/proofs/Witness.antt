@@ -1,6 +1,5 @@
 -- A run that happens: a node is made and makes a stream, and then it crashes. So the relations can be met.
-use Rattle.std.proofs.Common.{◌≡◌, ℕ, ◌+◌, ◌<◌, ◌^◌, ◌%◌, leb, Bool, true, false, cond, ◌&&◌, ltb, List, [], ◌∷◌, ◌++◌, length, Option, Some, None, Ok, Err, is_some, refl, sym, ap, ◌∙◌, subst, arith, ◌⊎◌, inl, inr}
-use Rattle.std.specs.Prelude.{Contains}
+use Rattle.std.proofs.Common.{◌≡◌, ℕ, ◌+◌, ◌<◌, ◌^◌, ◌%◌, leb, Bool, true, false, cond, ◌&&◌, ltb, List, [], ◌∷◌, ◌++◌, length, Option, None, Ok, Err, refl, sym, ap, ◌∙◌, subst, arith, ◌⊎◌, inl, inr}
 use Rattle.std.specs.FinMap.{empty, get, get-empty}
 use Rattle.std.specs.Ordering.{nat_cmp}
 use Rattle.std.specs.List.{list_any}
@@ -11,17 +10,16 @@ use Rattle.nats_text.specs.Hash.{fnv1a}
 use Rattle.stream_fold.specs.declared.config.Config.{Config}
 use Rattle.stream_fold.specs.declared.config.Copies.TheVariants.{Nothing}
 use Rattle.stream_fold.specs.declared.config.Discard.TheVariants.{Old}
-use Rattle.stream_fold.specs.Checking.{config_fault}
 use Rattle.record_codec.specs.Spelling.{spelling, u64_text, u32_text, config_text, text_of, list_text, discard_text, option_text, copies_text}
 use Rattle.record_codec.specs.declared.records.Rec.{Rec}
 use Rattle.record_codec.specs.declared.records.Rec.TheVariants.{Boot, Create}
 use Rattle.shard_machine.specs.declared.call.ShardCall.TheVariants as call
 use Rattle.shard_machine.specs.declared.reply.ShardRefusal.TheVariants as refusal
-use Rattle.shard_machine.specs.Images.{LogImage, NameFacts, count_of, image, image_after, no_image, if_stands, live_in, live_names}
-use Rattle.shard_machine.specs.Logs.{live, named_after}
+use Rattle.shard_machine.specs.Images.{LogImage, NameFacts, count_of, image_after, no_image, if_stands, live_in, live_names}
+use Rattle.shard_machine.specs.Logs.{named_after}
 use Rattle.shard_machine.specs.Views.{Effect, idle_askers}
-use Rattle.shard_machine.specs.Answers.{Answered, Answers, Creates, creates, creates_new}
-use Rattle.shard_machine.specs.Steps.{Held, Loads, Succeeds, view_in, after_effect, end_after, needed, has_room}
+use Rattle.shard_machine.specs.Answers.{Answered, Answers, Creates, creates}
+use Rattle.shard_machine.specs.Steps.{Loads, view_in, after_effect, end_after, needed, has_room}
 use Rattle.shard_machine.proofs.Images.{names-stand}
 use Rattle.run_soundness.specs.Shards.{ShardState, Moves, LoadsOn, RestsOn, empty_held}
 use Rattle.run_soundness.specs.Laws.{ARun}

@@ -1,4 +1,3 @@
-use Rattle.run_soundness.specs.Below.{Laws}
 use Rattle.run_soundness.proofs.laws.laws_below.Goals as goal
 
 pub returns : goal.returns

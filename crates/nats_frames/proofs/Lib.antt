@@ -1,0 +1,12 @@
+mod Decimals
+mod Ends
+mod Firsts
+mod JsonFrames
+mod Jsons
+mod Names
+mod Parts
+mod Readable
+mod Streams
+mod Takes
+mod Trims
+mod Written

@@ -1,0 +1,82 @@
+-- A stream that comes in pieces: what a feed holds, what it gives next, and what that leaves.
+use Rattle.std.specs.Prelude.{◌≡◌, ℕ, ◌+◌, ◌-◌, ◌^◌, ◌<◌, ◌≤◌, List, [], ◌∷◌, ◌++◌, length, take, drop, min, Bool, true, false, IsTrue, Option, None, Some, Result, Ok, Err, is_none, if◌then◌else◌}
+use Rattle.nats_frames.specs.declared.fault.FrameText.{FrameText}
+use Rattle.nats_frames.specs.declared.fault.FeedFault.{FeedFault}
+use Rattle.nats_frames.specs.declared.fault.FeedFault.TheVariants.{Refused as IsRefused, NoMemory}
+use Rattle.nats_frames.specs.declared.fault.Refused.{Refused}
+use Rattle.nats_frames.specs.declared.stream.First.{First}
+use Rattle.nats_frames.specs.declared.stream.First.TheVariants.{Frame, More, Refuse}
+use Rattle.nats_frames.specs.declared.frame.Side.{Side}
+use Rattle.nats_frames.specs.Lines.{has_no_feed}
+
+-- the bytes that no frame was taken of yet, how many bytes the frames before had, up to 2^64 - 1, and
+-- the refusal, once there is one
+pub record Pending : Type 0 where
+  pub rest : List ℕ
+  pub taken : ℕ
+  pub refused : Option Refused
+
+-- a stream of one side
+pub record Reading : Type 0 where
+  pub side : Side
+  pub pending : Pending
+
+-- nothing came yet
+abbrev pub nothing_yet : Pending
+nothing_yet = record { rest = []; taken = 0; refused = None }
+
+-- a piece more, which a stream that is refused doesn't keep
+abbrev pub fed : Pending → List ℕ → Pending
+fed pending piece = if is_none pending.refused then record pending { rest = pending.rest ++ piece } else pending
+
+-- a refusal of what stands behind the frames
+abbrev pub refusal : Pending → FrameText → Refused
+refusal pending text = record { text = text; place = pending.taken }
+
+-- what comes next of a stream that isn't refused, by what its rest begins with
+abbrev pub told_of : {F : Type 0} → Pending → First F → Result (Option F) FeedFault
+told_of pending (Frame frame len) = Ok (Some frame)
+told_of pending (More wanted) = Ok None
+told_of pending (Refuse text) = Err (IsRefused (refusal pending text))
+
+-- what comes next, by what the rest begins with
+abbrev pub next_told : {F : Type 0} → Pending → Option Refused → First F → Result (Option F) FeedFault
+next_told pending None first = told_of pending first
+next_told pending (Some refused) first = Err (IsRefused refused)
+
+-- what that leaves of a stream that isn't refused
+abbrev pub left_of : {F : Type 0} → Pending → First F → Pending
+left_of pending (Frame frame len) = record { rest = drop len pending.rest; taken = min (pending.taken + len) (2 ^ 64 - 1); refused = None }
+left_of pending (More wanted) = pending
+left_of pending (Refuse text) = record { rest = []; taken = pending.taken; refused = Some (refusal pending text) }
+
+-- what that leaves
+abbrev pub next_left : {F : Type 0} → Pending → Option Refused → First F → Pending
+next_left pending None first = left_of pending first
+next_left pending (Some refused) first = pending
+
+-- the answer is what comes next, and leaves what that leaves; without memory nothing changes
+abbrev pub Gives : {F : Type 0} → (List ℕ → First F) → Pending → Result (Option F) FeedFault → Pending → Type 0
+Gives first old (Ok answer) new = (Ok answer ≡ next_told old old.refused (first old.rest)) × (new ≡ next_left old old.refused (first old.rest))
+Gives first old (Err (IsRefused refused)) new = (Err (IsRefused refused) ≡ next_told old old.refused (first old.rest)) × (new ≡ next_left old old.refused (first old.rest))
+Gives first old (Err NoMemory) new = new ≡ old
+
+-- ---- for private clauses: what a feed knows of its rest
+
+-- more bytes are wanted
+abbrev pub is_more : {F : Type 0} → First F → Bool
+is_more (Frame frame len) = false
+is_more (More wanted) = true
+is_more (Refuse text) = false
+
+-- with fewer than so many bytes, whatever comes, more are wanted
+abbrev pub Waits : {F : Type 0} → (List ℕ → First F) → List ℕ → ℕ → Type 0
+Waits first rest wanted = (behind : List ℕ) → length (rest ++ behind) < wanted → is_more (first (rest ++ behind)) ≡ true
+
+-- the rest begins at a place of the buffer, no line ends within what was looked at, and more bytes
+-- are wanted until there are enough
+pub record Knows {F : Type 0} (first : List ℕ → First F) (buffer : List ℕ) (start looked wanted : ℕ) : Type 0 where
+  pub within : start ≤ length buffer
+  pub looked_within : looked ≤ length (drop start buffer)
+  pub none : IsTrue (has_no_feed (take looked (drop start buffer)))
+  pub waits : Waits first (drop start buffer) wanted

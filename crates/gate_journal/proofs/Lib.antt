@@ -1,8 +1,8 @@
 mod Appends
-mod Blocks
+pub mod Blocks
 mod Crash
-mod Endings
+pub mod Endings
 mod Formats
-mod Moments
+pub mod Moments
 mod Reading
-mod Unique
+pub mod Unique

@@ -1,5 +1,5 @@
 -- What is held of a log while it is read, name by name.
-use Rattle.std.specs.Prelude.{◌≡◌, ℕ, Bool, true, false, List, [], ◌∷◌, ◌++◌, length, take, slice_get, Option, None, Some, Result, Ok, Err}
+use Rattle.std.specs.Prelude.{◌≡◌, ℕ, Bool, true, false, List, [], ◌∷◌, ◌++◌, length, map, take, slice_get, Option, None, Some, Result, Ok, Err}
 use Rattle.std.specs.Cmp.Lexicographic.{slice_cmp}
 use Rattle.std.specs.Ordering.{nat_cmp}
 use Rattle.std.specs.BTreeMap.{BTreeMap, get_by}
@@ -7,6 +7,7 @@ use Rattle.std.specs.Global.{Vec}
 use Rattle.stream_fold.specs.Held.{StandsFor}
 use Rattle.nats_text.specs.declared.fault.NoMemory.{NoMemory}
 use Rattle.record_codec.specs.declared.records.Rec.{Rec}
+use Rattle.record_codec.specs.Spelling.{spelling}
 use Rattle.log_replay.specs.declared.replay.Known.{Known}
 use Rattle.log_replay.specs.declared.replay.Standing.{Standing}
 use Rattle.log_replay.specs.declared.replay.Replay.{Replay}
@@ -49,8 +50,8 @@ Takes log it new (Ok true) = MayFollow log it × IsReplayOf new (log ++ it ∷ [
 Takes log it new (Ok false) = MayFollow log it → ⊥
 Takes log it new (Err fault) = Unit {0}
 
--- the bodies are a log, or this one is the first that is no record which may follow
+-- the bodies are a log, each the spelling of its record, or this one is the first that is no record which may follow
 abbrev pub Replays : List (List ℕ) → Result Replayed NoMemory → Type 0
-Replays bodies (Ok (Log replay)) = (log : List Rec) × IsLogOf log bodies × IsReplayOf replay log
+Replays bodies (Ok (Log replay)) = (log : List Rec) × IsLogOf log bodies × IsReplayOf replay log × (bodies ≡ map spelling log)
 Replays bodies (Ok (Stops index)) = (log : List Rec) × (body : List ℕ) × IsLogOf log (take index bodies) × (slice_get bodies index ≡ Some body) × IsNoNext log body
 Replays bodies (Err fault) = Unit {0}

@@ -6,6 +6,7 @@ ghost use Rattle.stream_fold.specs.Fits.{Fits};
 ghost use Rattle.stream_fold.specs.Held.{StandsFor};
 ghost use Rattle.record_codec.specs.declared.records.Rec.{Rec as Record};
 ghost use Rattle.record_codec.specs.Reading.{reading};
+ghost use Rattle.record_codec.specs.Spelling.{spelling};
 ghost use Rattle.shard_machine.specs.Logs.{Made, boot, incarnation, live, named};
 ghost use Rattle.shard_machine.specs.Legal.{HasFaultless, IsLegal, IsNoNext, MayChange, MayFollow};
 ghost use Rattle.log_replay.specs.Replays.{found, IsReplayOf, Knows, Takes, Replays};
@@ -151,7 +152,7 @@ impl Replay {
     /// Takes the record that the body spells, and answers `false` where it spells none that may follow.
     fn take_body(&mut self, body: &[u8]) -> Result<bool, NoMemory>
         requires { (log : Items Record) × IsReplayOf self.old log }
-        ensures { (log : Items Record) → IsLegal log → IsReplayOf self.old log → IfOk result (λ taken. MatchBool taken ((it : Record) × (reading body.now ≡ Ok it) × MayFollow log it × IsReplayOf self.new (log ++ it ∷ [])) (IsNoNext log body.now)) }
+        ensures { (log : Items Record) → IsLegal log → IsReplayOf self.old log → IfOk result (λ taken. MatchBool taken ((it : Record) × (reading body.now ≡ Ok it) × MayFollow log it × IsReplayOf self.new (log ++ it ∷ []) × (body.now ≡ spelling it)) (IsNoNext log body.now)) }
     {
         match decode(self.alloc, body) {
             Ok(it) => self.take(it),

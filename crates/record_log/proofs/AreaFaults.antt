@@ -8,13 +8,13 @@ use Rattle.stream_fold.specs.declared.entry.Numbered.{Numbered}
 use Rattle.record_codec.specs.declared.records.Rec.{Rec}
 use Rattle.record_codec.specs.Reading.{reading}
 use Rattle.shard_machine.specs.declared.facts.Facts.{Facts}
-use Rattle.shard_store.specs.declared.fault.Part.TheVariants.{Main, Spare}
-use Rattle.shard_store.specs.declared.fault.StoreFault.{StoreFault}
-use Rattle.shard_store.specs.declared.fault.StoreFault.TheVariants.{ReadFault, BadJournal, TooLong, NoMemory}
+use Rattle.record_log.specs.declared.fault.Part.TheVariants.{Main, Spare}
+use Rattle.record_log.specs.declared.fault.StoreFault.{StoreFault}
+use Rattle.record_log.specs.declared.fault.StoreFault.TheVariants.{ReadFault, BadJournal, TooLong, NoMemory}
 use Rattle.log_replay.specs.declared.replay.Replay.{Replay}
 use Rattle.shard_machine.specs.Legal.{IsLogOf, IsNoNext, MayFollow, MayAllFollow}
-use Rattle.shard_store.specs.Stores.{LacksGate, HasBadBody, EndsWithBadLength, HasBadGate, HasNo, IsWhole, OneCounts, bodies_of}
-use Rattle.shard_store.specs.Reads.{ReadsAreas, ReadsLog, ShowsLog}
+use Rattle.record_log.specs.Stores.{LacksGate, HasBadBody, EndsWithBadLength, HasBadGate, HasNo, IsWhole, OneCounts, bodies_of}
+use Rattle.record_log.specs.Reads.{ReadsAreas, ReadsLog, ShowsLog}
 
 -- a list around one of its items
 around : {A : Type 0} (xs : List A) (i : ℕ) (x : A) → slice_get xs i ≡ Some x → (after : List A) × (xs ≡ take i xs ++ x ∷ after)

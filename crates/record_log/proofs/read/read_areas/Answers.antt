@@ -1,8 +1,8 @@
 use Rattle.std.proofs.Common.{rules, true, false}
 use Rattle.std.proofs.lemmas.Result.{err_from_is_err_and}
-use Rattle.shard_store.specs.Stores.{OneCounts}
-use Rattle.shard_store.proofs.AreaFaults.{spare_fault, both_read, taken}
-use Rattle.shard_store.proofs.read.read_areas.Goals as goal
+use Rattle.record_log.specs.Stores.{OneCounts}
+use Rattle.record_log.proofs.AreaFaults.{spare_fault, both_read, taken}
+use Rattle.record_log.proofs.read.read_areas.Goals as goal
 
 pub returns-in_err-second : goal.returns-in_err-second
 returns-in_err-second c =

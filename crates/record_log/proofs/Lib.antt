@@ -1,1 +1,4 @@
 mod AreaFaults
+mod Areas
+mod Growing
+mod Running

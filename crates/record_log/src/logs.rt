@@ -1,11 +1,12 @@
 ghost use Rattle.std.specs.Prelude.{◌≡◌, ◌+◌, ◌≤◌, ◌∷◌, ◌++◌, [], ℕ, Bool, true, false, List as Items, Ok, IfOk, IfErr, OnOk, OnErr, IsErrOf, length};
+ghost use Rattle.leaf_edges.specs.Disks.{LeavesOnly};
 ghost use Rattle.gate_journal.specs.Areas.{max_body, max_area};
-ghost use Rattle.gate_journal.specs.Journals.{Does, WriteFaults, append_calls};
+ghost use Rattle.gate_journal.specs.Journals.{Stands, IsBeforeOrAfter, Does, WriteFaults, append_calls, with_body};
 ghost use Rattle.mem_disk.specs.MemDisks.{DiskState};
 ghost use Rattle.record_codec.specs.declared.records.Rec.{Rec as Record};
 ghost use Rattle.record_codec.specs.Reading.{reading};
 ghost use Rattle.shard_machine.specs.Legal.{MayFollow};
-ghost use Rattle.record_log.specs.LogStates.{counted, uncounted};
+ghost use Rattle.record_log.specs.LogStates.{in_use, counted, uncounted};
 ghost use Rattle.record_log.specs.Standing.{EachStandsFor, SinceStandFor, SinceStandOrTorn};
 ghost use Rattle.record_log.specs.Appending.{Extends, IsShut};
 ghost use Rattle.record_log.specs.Opening.{Opened, FailsBy, OpenCauses, OpenDoes, Tallies, OnBoth, fault_alone};
@@ -47,6 +48,38 @@ impl<D: Disk> Model for RecordLog<D> {
     ghost view = { λ l. record { main = l.main; spare = l.spare; on_spare = l.on_spare; is_open = is_some l.journal; end = end_in l.journal; faults = l.faults } };
 
     ghost invariant = { λ l. Serves D.tells D.images l.main l.spare l.on_spare l.journal };
+}
+
+/// Adds a body to the journal on the disk that counts. The other one isn't called.
+fn append_in_use<D: Disk>(
+    journal: &mut Journal,
+    main: &mut D,
+    spare: &mut D,
+    on_spare: bool,
+    body: &[u8],
+) -> Result<(), AppendFault>
+    requires some { 1 ≤ length body.now }
+    requires most { length body.now ≤ max_body }
+    requires room { journal.old.end + 6 + length body.now ≤ max_area }
+    requires stands { D.tells → (bodies : Items (Items ℕ)) × Stands D.images (in_use on_spare main.old spare.old) journal.old bodies }
+    ensures any_moment { (bodies : Items (Items ℕ)) → D.tells → Stands D.images (in_use on_spare main.old spare.old) journal.old bodies →
+        LeavesOnly D.moment D.left_since (in_use on_spare main.old spare.old) (in_use on_spare main.new spare.new) (IsBeforeOrAfter journal.old.generation bodies body.now) }
+    ensures ok { (bodies : Items (Items ℕ)) → D.tells → Stands D.images (in_use on_spare main.old spare.old) journal.old bodies →
+        OnOk result (Stands D.images (in_use on_spare main.new spare.new) journal.new (bodies ++ body.now ∷ [])) }
+    ensures memory { (bodies : Items (Items ℕ)) → D.tells → Stands D.images (in_use on_spare main.old spare.old) journal.old bodies →
+        IsErrOf result AppendFault.NoMemory → Stands D.images (in_use on_spare main.new spare.new) journal.new bodies }
+    ensures grows { OnOk result (journal.new ≡ with_body journal.old body.now) }
+    ensures journal { OnErr result (journal.new ≡ journal.old) }
+    ensures one { in_use on_spare spare.new main.new ≡ in_use on_spare spare.old main.old }
+    ensures calls { D.tells → Does D.done D.failed (in_use on_spare main.old spare.old) (in_use on_spare main.new spare.new) (append_calls journal.old.end body.now) result }
+    ensures cause { WriteFaults (D.faults (in_use on_spare main.old spare.old)) (D.faults (in_use on_spare main.new spare.new)) result }
+    ensures leads { D.leads main.old main.new × D.leads spare.old spare.new }
+{
+    if on_spare {
+        journal.append(spare, body)
+    } else {
+        journal.append(main, body)
+    }
 }
 
 impl<D: Disk> RecordLog<D> {
@@ -125,7 +158,28 @@ impl<D: Disk> RecordLog<D> {
         ensures tally { WriteFaults self.old.faults self.new.faults result }
         ensures leads { D.leads self.old.main self.new.main × D.leads self.old.spare self.new.spare }
     {
-        Err(AppendFault::NoMemory)
+        let mut journal = self.journal.take().unwrap();
+        let appended = append_in_use(
+            &mut journal,
+            &mut self.main,
+            &mut self.spare,
+            self.on_spare,
+            body,
+        );
+        match appended {
+            Ok(()) => {
+                self.journal = Some(journal);
+                Ok(())
+            }
+            Err(AppendFault::NoMemory) => {
+                self.journal = Some(journal);
+                Err(AppendFault::NoMemory)
+            }
+            Err(AppendFault::DiskFault) => {
+                self.faults = self.faults.saturating_add(1);
+                Err(AppendFault::DiskFault)
+            }
+        }
     }
 
     /// Whether it is open.

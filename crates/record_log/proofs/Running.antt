@@ -23,7 +23,6 @@ both_same {A} e = ⊎_elim (λ (t : A). t) (λ (t : A). t) e
 module _ {D : Type 0} (moment : D → ℕ) (left_since : D → ℕ → List ℕ → Type 0) (seen : D → List ℕ) (images : D → List ℕ → Type 0)
     (seen_is : (d : D) → images d (seen d)) (counts_now : (d : D) (t : ℕ) (c : List ℕ) → t ≤ moment d → images d c → left_since d t c) (only_now : (d : D) (c : List ℕ) → left_since d (moment d) c → images d c)
     (g : ℕ) (bs : List (List ℕ)) where
-
   -- the log for which the disks stand is that of the journal's bodies
   pub log_of_journal : (o : Bool) (main spare : D) → ((c : List ℕ) → images (in_use o main spare) c → IsArea true g bs c) → IsPassedOver images o g (in_use o spare main) → (log : List Rec) → EachStandsFor images main spare (log ∷ []) → IsLogOf log bs
   log_of_journal false main spare each other log stand =
@@ -107,3 +106,11 @@ module _ {D : Type 0} (moment : D → ℕ) (left_since : D → ℕ → List ℕ 
     λ c now. let z = other c (subst (λ (d : D). images d c) same now) in z.1.long,
     λ c now. ⊎_elim (area_long bs c) (area_long (bs ++ body ∷ []) c) (run.each c (counts_now spare' (moment spare) c run.later now)).1,
   )
+
+  -- and afterwards
+  pub stand_now : (body : List ℕ) (log : List Rec) (it : Rec) → reading body ≡ Ok it → MayFollow log it → (o : Bool) (main spare main' spare' : D) → ((c : List ℕ) → images (in_use o main spare) c → IsArea true g bs c) → IsPassedOver images o g (in_use o spare main)
+      → LeavesOnly moment left_since (in_use o main spare) (in_use o main' spare') (IsBeforeOrAfter g bs body) → in_use o spare' main' ≡ in_use o spare main → EachStandsFor images main spare (log ∷ []) → EachStandsFor images main' spare' ((log ++ it ∷ []) ∷ log ∷ [])
+  stand_now body log it spells may o main spare main' spare' each other run same stand = λ a b ia ib.
+      let later = no_earlier o main spare main' spare' run.later same in
+      moments body log it spells may o main spare main' spare' each other run same stand (moment main) (moment spare) (log ∷ []) (omega arith) (omega arith)
+      (λ x y lx ly. stand x y (only_now main x lx) (only_now spare y ly)) a b (counts_now main' (moment main) a later.0 ia) (counts_now spare' (moment spare) b later.1 ib)

@@ -12,6 +12,7 @@ ghost use Rattle.record_log.specs.Appending.{Extends, IsShut};
 ghost use Rattle.record_log.specs.Opening.{Opened, FailsBy, OpenCauses, OpenDoes, Tallies, OnBoth, fault_alone};
 ghost use Rattle.record_log.specs.Fuses.{fused};
 
+use crate::opening::{Loaded, load_disks, tallied};
 use crate::{AppendFault, OpenFault};
 use gate_journal::Journal;
 use leaf_edges::Disk;
@@ -92,8 +93,8 @@ impl<D: Disk> RecordLog<D> {
     /// area.
     pub fn open(
         alloc: Global,
-        main: D,
-        spare: D,
+        mut main: D,
+        mut spare: D,
     ) -> Result<(RecordLog<D>, Replay), (OpenFault, D, D)>
         ensures opened { IfOk result (λ found. Opened D.tells D.seen D.images main spare found.1 found.0) }
         ensures counts { IfOk result (λ found. found.0.faults ≡ 0) }
@@ -107,7 +108,25 @@ impl<D: Disk> RecordLog<D> {
         ensures cause { OnBoth (λ m s. OpenCauses D.faults main spare m s (fault_alone result)) result }
         ensures leads { OnBoth (λ m s. D.leads main m × D.leads spare s) result }
     {
-        Err((OpenFault::NoMemory, main, spare))
+        match load_disks(alloc, &mut main, &mut spare) {
+            Ok(found) => {
+                let Loaded {
+                    journal,
+                    on_spare,
+                    replay,
+                } = found;
+                let log = RecordLog {
+                    alloc,
+                    main,
+                    spare,
+                    on_spare,
+                    journal: Some(journal),
+                    faults: 0,
+                };
+                Ok((log, replay))
+            }
+            Err(fault) => Err((fault, main, spare)),
+        }
     }
 
     /// Opens the log again, after a fault of a disk or at any other time, and replays it. At a fault it
@@ -126,8 +145,23 @@ impl<D: Disk> RecordLog<D> {
         ensures tally { Tallies self.old.faults self.new.faults result }
         ensures leads { D.leads self.old.main self.new.main × D.leads self.old.spare self.new.spare }
     {
-        self.journal = None;
-        Err(OpenFault::NoMemory)
+        match load_disks(self.alloc, &mut self.main, &mut self.spare) {
+            Ok(found) => {
+                let Loaded {
+                    journal,
+                    on_spare,
+                    replay,
+                } = found;
+                self.journal = Some(journal);
+                self.on_spare = on_spare;
+                Ok(replay)
+            }
+            Err(fault) => {
+                self.journal = None;
+                self.faults = tallied(self.faults, fault);
+                Err(fault)
+            }
+        }
     }
 
     /// Adds the body of a record, 1 to 2,097,152 bytes, to an open log, whose journal has at most `2^40`

@@ -18,7 +18,7 @@ pub fn refused(
     why: ShardRefusal,
     doubted: Option<Entry>,
 ) -> ShardReply
-    ensures reply { (result ≡ refused call.now why doubted) ⊎ ((refused_packets call.now why ≢ []) × (result ≡ refused call.now OutOfMemory None)) }
+    ensures { (result ≡ refused call.now why doubted) ⊎ ((refused_packets call.now why ≢ []) × (result ≡ refused call.now OutOfMemory None)) }
 {
     match packets_told(alloc, call, api_numbers(&why)) {
         Ok(packets) => ShardReply {

@@ -1,4 +1,6 @@
 mod AreaFaults
 mod Areas
+mod Calls
 mod Growing
+mod Loads
 mod Running

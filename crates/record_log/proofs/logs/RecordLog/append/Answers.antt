@@ -100,20 +100,21 @@ returns-in-Ok-clause-ok g c = λ log it tells.
     (λ x now. (stands.each x now, stands.short x now)) log stand)
 
 pub returns-in-Err-NoMemory-clause-memory : goal.returns-in-Err-NoMemory-clause-memory
-returns-in-Err-NoMemory-clause-memory g c = λ log tells.
+returns-in-Err-NoMemory-clause-memory g c = λ log tells stood _.
     let disk = g.D.Disk in
     let i = c.self.inside in
     let a = c.append_in_use-appended in
     let j = c.unwrap-journal.result in
     let is : i.journal ≡ Some j = cc in
     let served = subst (λ (o : Option JournalState). Serves disk.tells disk.images i.main i.spare i.on_spare o) is c.self.invariant tells in
-    let none : a.result ≡ Err NoMemory = c.in-Err-NoMemory.is ∙ ap (λ e. Err e) c.in-Err-NoMemory.field-0-is in
+    let kind : c.in-Err-NoMemory.field-0 ≡ NoMemory = rw c.in-Err-NoMemory.is at c.in-Err-NoMemory.field-0-is in
+    let none : a.result ≡ Err NoMemory = c.in-Err-NoMemory.is ∙ ap (λ (e : AppendFault). Err e) kind in
     let same = subst (λ (r : Result Unit AppendFault). OnErr r (a.new.journal ≡ j)) none a.ensures.journal in
     let stands = subst (λ (k : JournalState). Stands disk.images (in_use i.on_spare a.new.main a.new.spare) k served.bodies) same (a.ensures.memory served.bodies tells served.stands none) in
-    subst (λ (l : LogState g.row.D.Denot). EachStandsFor disk.images l.main l.spare (log ∷ []) → IsErrOf (Err {T = Unit} NoMemory) NoMemory → EachStandsFor disk.images a.new.main a.new.spare (log ∷ [])) c.self.view_is
-    (λ stand _. stands_after disk.moment disk.left_since disk.seen disk.images (λ d. g.met.D.Disk.seen_is_image d tells) (λ d s x. g.met.D.Disk.counts_now d s x tells) (λ d x. g.met.D.Disk.only_now d x tells) j.generation served.bodies i.on_spare i.main i.spare a.new.main a.new.spare served.stands.each served.other a.ensures.one served.bodies log
+    subst (λ (l : LogState g.row.D.Denot). EachStandsFor disk.images l.main l.spare (log ∷ []) → EachStandsFor disk.images a.new.main a.new.spare (log ∷ [])) c.self.view_is
+    (λ stand. stands_after disk.moment disk.left_since disk.seen disk.images (λ d. g.met.D.Disk.seen_is_image d tells) (λ d s x. g.met.D.Disk.counts_now d s x tells) (λ d x. g.met.D.Disk.only_now d x tells) j.generation served.bodies i.on_spare i.main i.spare a.new.main a.new.spare served.stands.each served.other a.ensures.one served.bodies log
     (log_of_journal disk.moment disk.left_since disk.seen disk.images (λ d. g.met.D.Disk.seen_is_image d tells) (λ d s x. g.met.D.Disk.counts_now d s x tells) (λ d x. g.met.D.Disk.only_now d x tells) j.generation served.bodies i.on_spare i.main i.spare served.stands.each served.other log stand)
-    (λ x now. (stands.each x now, stands.short x now)) log stand)
+    (λ x now. (stands.each x now, stands.short x now)) log stand) stood
 
 pub invariant_of-self-in-DiskFault-1 : goal.invariant_of-self-in-DiskFault-1
 invariant_of-self-in-DiskFault-1 g c =

@@ -3,4 +3,5 @@ mod Areas
 mod Calls
 mod Growing
 mod Loads
+mod Reopening
 mod Running

@@ -1,13 +1,13 @@
 -- For which log two disks stand that were loaded.
 use Rattle.std.proofs.Common.{◌≡◌, ◌≢◌, ◌⊎◌, inl, inr, ⊎_elim, ℕ, ◌≤◌, ◌<◌, ◌+◌, true, false, List, [], ◌∷◌, ◌++◌, length, map, refl, sym, ◌∙◌, ap, subst, arith, length-append}
-use Rattle.std.specs.Prelude.{Bool, Result, Ok, Some, if◌then◌else◌}
+use Rattle.std.specs.Prelude.{Bool, Option, None, Result, Ok, Err, Some, IfOk, IfErr, if◌then◌else◌}
 use Rattle.std.proofs.lemmas.Bool.Decides.{nat_tests}
 use Rattle.leaf_edges.specs.Disks.{Only}
 use Rattle.gate_journal.specs.Areas.{head, block, blocks, end_of, max_area, AreaState, IsArea, Holds, EndsIn}
 use Rattle.gate_journal.specs.Journals.{JournalState, journal_of}
 use Rattle.gate_journal.specs.declared.area.Ending.{Ending}
 use Rattle.gate_journal.specs.declared.area.Ending.TheVariants.{Closed}
-use Rattle.gate_journal.proofs.Unique.{one_held}
+use Rattle.gate_journal.proofs.Unique.{one_held, held_headed}
 use Rattle.record_codec.specs.declared.records.Rec.{Rec}
 use Rattle.record_codec.specs.Spelling.{spelling}
 use Rattle.shard_machine.specs.Legal.{IsLogOf}
@@ -16,7 +16,11 @@ use Rattle.record_log.specs.declared.opening.Loaded.{Loaded}
 use Rattle.record_log.specs.Stores.{IsWhole, OneCounts, is_passed, bodies_of}
 use Rattle.record_log.specs.Standing.{as_loaded, StandIn, StandFor, EachStandsFor, IsOneOf}
 use Rattle.record_log.specs.Serving.{IsBehind, IsServed}
-use Rattle.record_log.specs.Loading.{OpensAreas, AreLoaded}
+use Rattle.record_log.specs.Loading.{OpensArea, OpensAreas, OpensBoth, AreLoaded}
+use Rattle.record_log.specs.Opening.{FailsBy}
+use Rattle.record_log.specs.declared.fault.OpenFault.{OpenFault}
+use Rattle.record_log.specs.declared.fault.OpenFault.TheVariants.{ReadFault, SyncFault, BadJournal, TooLong, NoMemory}
+use Rattle.record_log.specs.declared.fault.Part.TheVariants.{Main, Spare}
 use Rattle.record_log.proofs.Areas.{loaded_held, stand_main}
 
 -- an area that counts and is whole
@@ -138,9 +142,9 @@ pub record Known {D : Type 0} (seen : D → List ℕ) (images : D → List ℕ �
   pub spare_short : length (as_loaded false (seen spare)) ≤ max_area
   pub spare_only : Only (as_loaded false (seen spare)) (images spare')
 
-module _ {D : Type 0} (tells : Type 0) (seen : D → List ℕ) (images : D → List ℕ → Type 0) (seen_is : tells → (d : D) → images d (seen d)) (main spare main' spare' : D) (x y : AreaState) where
-  pub loaded : (found : Loaded) → OpensAreas x y (Ok found) → (tells → Known seen images main spare main' spare' x y) → AreLoaded tells seen images main spare main' spare' found
-  loaded found o known = record {
+module _ {D : Type 0} (tells : Type 0) (seen : D → List ℕ) (images : D → List ℕ → Type 0) (seen_is : tells → (d : D) → images d (seen d)) (main spare main' spare' : D) where
+  pub loaded_areas : (x y : AreaState) (found : Loaded) → OpensAreas x y (Ok found) → (tells → Known seen images main spare main' spare' x y) → AreLoaded tells seen images main spare main' spare' found
+  loaded_areas x y found o known = record {
     log = o.4;
     legal = o.5.legal;
     replayed = o.6;
@@ -159,3 +163,29 @@ module _ {D : Type 0} (tells : Type 0) (seen : D → List ℕ) (images : D → L
     among = λ tells logs each. let k = known tells in one_of (seen main) (seen spare) o.4 x y k.holds k.spare_holds o.5 logs (each (seen main) (seen spare) (seen_is tells main) (seen_is tells spare));
     served = λ tells. let k = known tells in served_of images main' spare' (as_loaded true (seen main)) (as_loaded false (seen spare)) x y k.only k.spare_only k.holds k.short k.spare_holds k.spare_short o.0 o.1 o.2 found.on_spare o.3 found.journal o.8;
   }
+
+  -- whatever was found, each disk having a head or not
+  pub both_loaded : (first second : Option AreaState) (r : Result Loaded OpenFault) → OpensBoth first second r
+      → (tells → OpensArea (as_loaded true (seen main)) (Ok first)) → (tells → Only (as_loaded true (seen main)) (images main'))
+      → (tells → OpensArea (as_loaded false (seen spare)) (Ok second)) → (tells → Only (as_loaded false (seen spare)) (images spare')) → IfOk r (AreLoaded tells seen images main spare main' spare')
+  both_loaded None second r o f only f' only' = subst (λ (q : Result Loaded OpenFault). IfOk q (AreLoaded tells seen images main spare main' spare')) (sym o) tt
+  both_loaded (Some a) None r o f only f' only' = subst (λ (q : Result Loaded OpenFault). IfOk q (AreLoaded tells seen images main spare main' spare')) (sym o) tt
+  both_loaded (Some a) (Some b) (Ok found) o f only f' only' = loaded_areas a b found o (λ t. record { holds = (f t).1; short = (f t).0; only = only t; spare_holds = (f' t).1; spare_short = (f' t).0; spare_only = only' t })
+  both_loaded (Some a) (Some b) (Err fault) o f only f' only' = tt
+
+-- the first fault of two disks
+short_of : (c : List ℕ) (found : Option AreaState) → OpensArea c (Ok found) → length c ≤ max_area
+short_of c (Some area) o = o.0
+short_of c None o = o.0
+
+pub both_fail : (main spare : List ℕ) (first second : Option AreaState) (r : Result Loaded OpenFault) → OpensBoth first second r → OpensArea (as_loaded true main) (Ok first) → OpensArea (as_loaded false spare) (Ok second) → IfErr r (FailsBy main spare)
+both_fail main spare None second r o f f' =
+    subst (λ (q : Result Loaded OpenFault). IfErr q (FailsBy main spare)) (sym o) ((f.0, short_of (as_loaded false spare) second f'), Main, inl (inl (refl, (refl, f.1))))
+both_fail main spare (Some a) None r o f f' =
+    subst (λ (q : Result Loaded OpenFault). IfErr q (FailsBy main spare)) (sym o) ((f.0, f'.0), Spare, inl (inr (refl, (λ p lacks. held_headed (as_loaded true main) a f.1 lacks.1), (refl, f'.1))))
+both_fail main spare (Some a) (Some b) (Ok found) o f f' = tt
+both_fail main spare (Some a) (Some b) (Err ReadFault) o f f' = tt
+both_fail main spare (Some a) (Some b) (Err SyncFault) o f f' = tt
+both_fail main spare (Some a) (Some b) (Err (BadJournal place)) o f f' = ((f.0, f'.0), o.0, inr (a, b, f.1, f'.1, o.1))
+both_fail main spare (Some a) (Some b) (Err (TooLong len)) o f f' = absurd o
+both_fail main spare (Some a) (Some b) (Err NoMemory) o f f' = tt

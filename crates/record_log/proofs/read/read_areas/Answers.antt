@@ -21,8 +21,8 @@ returns-then-is_newer c =
     let gates = c.in_ok-find_gates.ensures in
     both_read a b c.in_ok-first.first c.in_ok-second.second one gates.0 gates.1 c.in_ok-first.ensures c.in_ok-second.ensures true c.if-is_newer.ensures
 
-pub returns : goal.returns
-returns c =
+pub returns-else-is_newer : goal.returns-else-is_newer
+returns-else-is_newer c =
     let a = c.args.main.now in
     let b = c.args.spare.now in
     let one : OneCounts a b = search rules in

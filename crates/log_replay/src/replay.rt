@@ -51,7 +51,8 @@ pub enum Replayed {
 }
 
 impl Replay {
-    fn new(alloc: Global) -> Replay
+    /// What is held of a log without records.
+    pub fn new(alloc: Global) -> Replay
         ensures { IsReplayOf result [] }
     {
         Replay {

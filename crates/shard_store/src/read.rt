@@ -33,6 +33,6 @@ pub fn read_streams<D: Disk>(
     ensures spare_leads { OnSpares D.leads spare.old spare.new }
 {
     let replay = read_store(alloc, disk, spare)?;
-    let boot = replay.boot;
-    Ok((boot, streams(alloc, &replay)?))
+    let shown = streams(alloc, &replay)?;
+    Ok((replay.boot, shown))
 }

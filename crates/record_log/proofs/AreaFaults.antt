@@ -73,8 +73,7 @@ pub both_read : (a b : AreaState) (first second : Replay) → OneCounts a b → 
     → (newer : Bool) → newer ≡ is_passed a b → ReadsAreas a b (Ok (newer, if newer then second else first))
 both_read a b first second one gates gates' f s newer is =
     let bodies = λ (p : Bool). if p then b.bodies else a.bodies in
-    let taken = by newer in
-    (
+    let taken = by newer in (
       one,
       whole_area a f.0 f.1 f.3 gates,
       whole_area b s.0 s.1 s.3 gates',

@@ -43,8 +43,8 @@ module _ {D : Type 0} (moment : D → ℕ) (left_since : D → ℕ → List ℕ 
   leaves_then_look d mid new so_far same time = (
     omega (arith, so_far.0, time.later),
     λ t c le left.
-    let le' : t ≤ moment mid = omega (arith, le, so_far.0) in
-    ⊎_elim (λ was. so_far.1 t c le was) (λ now. so_far.1 t c le (counts_now mid t c le' (same.no_more c now))) (time.nothing_else t c le' left),
+        let le' : t ≤ moment mid = omega (arith, le, so_far.0) in
+        ⊎_elim (λ was. so_far.1 t c le was) (λ now. so_far.1 t c le (counts_now mid t c le' (same.no_more c now))) (time.nothing_else t c le' left),
   )
 
   -- and a run that leaves nothing new
@@ -52,8 +52,8 @@ module _ {D : Type 0} (moment : D → ℕ) (left_since : D → ℕ → List ℕ 
   leaves_then_run d mid new so_far run = (
     omega (arith, so_far.0, run.later),
     λ t c le left.
-    let le' : t ≤ moment mid = omega (arith, le, so_far.0) in
-    ⊎_elim (λ was. so_far.1 t c le was) (λ now. so_far.1 t c le (counts_now mid t c le' now)) (run.before t c le' left),
+        let le' : t ≤ moment mid = omega (arith, le, so_far.0) in
+        ⊎_elim (λ was. so_far.1 t c le was) (λ now. so_far.1 t c le (counts_now mid t c le' now)) (run.before t c le' left),
   )
 
   -- a look at an empty disk, and its formatting
@@ -61,11 +61,11 @@ module _ {D : Type 0} (moment : D → ℕ) (left_since : D → ℕ → List ℕ 
   leaves_format d mid new empty same time run = (
     omega (arith, time.later, run.later),
     λ t c le left.
-    let le' : t ≤ moment mid = omega (arith, le, time.later) in
-    let look = leaves_look d mid same time in
-    ⊎_elim (λ was. look.1 t c le was)
-    (λ (tear : MayTear (images mid) 0 18 c). inr (empty, ⊎_elim (λ now. inl (same.no_more c now)) (λ t. inr (t.0, same.no_more t.0 t.1, t.2)) tear))
-    (run.before t c le' left),
+        let le' : t ≤ moment mid = omega (arith, le, time.later) in
+        let look = leaves_look d mid same time in
+        ⊎_elim (λ was. look.1 t c le was)
+        (λ (tear : MayTear (images mid) 0 18 c). inr (empty, ⊎_elim (λ now. inl (same.no_more c now)) (λ t. inr (t.0, same.no_more t.0 t.1, t.2)) tear))
+        (run.before t c le' left),
   )
 
 -- ---- what is called

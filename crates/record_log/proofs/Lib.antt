@@ -1,6 +1,5 @@
 mod AreaFaults
 mod Areas
-mod Calls
 mod Growing
 mod Loads
 mod Reopening

@@ -12,6 +12,8 @@ mod folders;
 #[cfg(test)]
 mod journals;
 #[cfg(test)]
+mod logs;
+#[cfg(test)]
 mod stores;
 #[cfg(test)]
 mod table;

@@ -2,8 +2,8 @@
 use Rattle.std.proofs.Common.{◌≡◌, ◌≢◌, ℕ, suc, ◌<◌, List, [], ◌∷◌, ◌++◌, sym, ◌∙◌, subst, arith}
 use Rattle.std.specs.Prelude.{Option, Some, Err, MatchOption, codes, decimal}
 use Rattle.std.proofs.lemmas.List.{append_cancel_left}
-use Rattle.shard_store.specs.declared.fault.Part.{Part}
-use Rattle.shard_store.specs.declared.fault.Part.TheVariants.{Main, Spare}
+use Rattle.record_log.specs.declared.fault.Part.{Part}
+use Rattle.record_log.specs.declared.fault.Part.TheVariants.{Main, Spare}
 use Rattle.leafd_cli.specs.declared.inspect.InspectFault.{InspectFault}
 use Rattle.leafd_cli.specs.declared.inspect.InspectFault.TheVariants.{Read, Disk, BadJournal, TooLong, NoMemory}
 use Rattle.leafd_cli.specs.Folders.{path}

@@ -8,9 +8,10 @@ use Rattle.leaf_edges.specs.Disks.{Op, Unchanged}
 use Rattle.leaf_edges.specs.Files.{TellsAs, IsEmptyDisk, HandsOut, GoesOut, GoesBack, SameFiles, IfHanded, CountsDisk}
 use Rattle.stream_fold.specs.declared.entry.Numbered.{Numbered}
 use Rattle.shard_machine.specs.declared.facts.Facts.{Facts}
-use Rattle.shard_store.specs.declared.fault.StoreFault.{StoreFault}
-use Rattle.shard_store.specs.declared.fault.StoreFault.TheVariants.{ReadFault, BadJournal, TooLong, NoMemory}
-use Rattle.shard_store.specs.Stores.{ReadsStore, OnSpares, SpareHas, StoreCauses}
+use Rattle.record_log.specs.declared.fault.StoreFault.{StoreFault}
+use Rattle.record_log.specs.declared.fault.StoreFault.TheVariants.{ReadFault, BadJournal, TooLong, NoMemory}
+use Rattle.shard_store.specs.Reads.{ReadsStore}
+use Rattle.record_log.specs.Stores.{OnSpares, SpareHas, StoreCauses}
 use Rattle.leafd_cli.specs.declared.inspect.InspectFault.{InspectFault}
 use Rattle.leafd_cli.specs.Folders.{contents, KeepsFiles}
 use Rattle.leafd_cli.specs.Inspections.{ReadsDisks, HasRead, TurnsInto}

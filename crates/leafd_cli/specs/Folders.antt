@@ -1,8 +1,8 @@
 -- The files of a store in a folder.
 use Rattle.std.specs.Prelude.{◌≡◌, ℕ, Bool, List, ◌∷◌, ◌++◌, Option, codes, decimal}
 use Rattle.std.specs.Option.{option_map}
-use Rattle.shard_store.specs.declared.fault.Part.{Part}
-use Rattle.shard_store.specs.declared.fault.Part.TheVariants.{Main, Spare}
+use Rattle.record_log.specs.declared.fault.Part.{Part}
+use Rattle.record_log.specs.declared.fault.Part.TheVariants.{Main, Spare}
 
 -- the bytes of the disk in its place under a name
 abbrev pub contents : {F D : Type 0} → (F → List ℕ → Option D) → (D → List ℕ) → F → List ℕ → Option (List ℕ)

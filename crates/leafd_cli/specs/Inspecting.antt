@@ -6,11 +6,11 @@ use Rattle.leaf_edges.specs.Causes.{AppendsPrefix}
 use Rattle.stream_fold.specs.declared.entry.Numbered.{Numbered}
 use Rattle.record_codec.specs.declared.records.Rec.{Rec}
 use Rattle.shard_machine.specs.declared.facts.Facts.{Facts}
-use Rattle.shard_store.specs.declared.fault.Part.{Part}
-use Rattle.shard_store.specs.declared.fault.Part.TheVariants.{Main, Spare}
+use Rattle.record_log.specs.declared.fault.Part.{Part}
+use Rattle.record_log.specs.declared.fault.Part.TheVariants.{Main, Spare}
 use Rattle.shard_machine.specs.Logs.{boot}
 use Rattle.shard_store.specs.Streams.{AreStreams}
-use Rattle.shard_store.specs.Stores.{StoreHolds, AreShort, IsBadStore, IsTooLong}
+use Rattle.record_log.specs.Stores.{StoreHolds, AreShort, IsBadStore, IsTooLong}
 use Rattle.leafd_cli.specs.declared.status.Status.{Status}
 use Rattle.leafd_cli.specs.declared.status.Status.TheVariants.{Done, ScriptFault, Usage, ReadFault, WriteFault, DiskFault, NoMemory, ScriptTooLong, BadJournal, JournalTooLong, BadTransform, NoMatch}
 use Rattle.leafd_cli.specs.Report.{numbers_text, row_text}

@@ -7,13 +7,13 @@ use Rattle.leaf_edges.specs.declared.fault.EdgeError.TheVariants.{Failed, NoMemo
 use Rattle.stream_fold.specs.declared.entry.Numbered.{Numbered}
 use Rattle.record_codec.specs.declared.records.Rec.{Rec}
 use Rattle.shard_machine.specs.declared.facts.Facts.{Facts}
-use Rattle.shard_store.specs.declared.fault.Part.{Part}
-use Rattle.shard_store.specs.declared.fault.Part.TheVariants.{Main, Spare}
-use Rattle.shard_store.specs.declared.fault.StoreFault.{StoreFault}
-use Rattle.shard_store.specs.declared.fault.StoreFault.TheVariants.{ReadFault as Unread, BadJournal as BadStore, TooLong as LongStore, NoMemory as NoRoomRead}
+use Rattle.record_log.specs.declared.fault.Part.{Part}
+use Rattle.record_log.specs.declared.fault.Part.TheVariants.{Main, Spare}
+use Rattle.record_log.specs.declared.fault.StoreFault.{StoreFault}
+use Rattle.record_log.specs.declared.fault.StoreFault.TheVariants.{ReadFault as Unread, BadJournal as BadStore, TooLong as LongStore, NoMemory as NoRoomRead}
 use Rattle.shard_machine.specs.Logs.{boot}
 use Rattle.shard_store.specs.Streams.{AreStreams}
-use Rattle.shard_store.specs.Stores.{StoreHolds}
+use Rattle.record_log.specs.Stores.{StoreHolds}
 use Rattle.leafd_cli.specs.declared.inspect.InspectFault.{InspectFault}
 use Rattle.leafd_cli.specs.declared.inspect.InspectFault.TheVariants.{Read, Disk, BadJournal, TooLong, NoMemory}
 use Rattle.leafd_cli.specs.declared.status.Status.{Status}

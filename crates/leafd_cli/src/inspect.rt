@@ -1,7 +1,7 @@
 ghost use Rattle.std.specs.Prelude.{◌≡◌, ◌++◌, List as Items, ℕ, true, false, OnOk, IfOk, OnSome, MatchOption};
 ghost use Rattle.leaf_edges.specs.Files.{GoesBack, CountsDisk};
 ghost use Rattle.std.specs.List.{flat_map};
-ghost use Rattle.shard_store.specs.declared.fault.Part.TheVariants.{Spare as Second};
+ghost use Rattle.record_log.specs.declared.fault.Part.TheVariants.{Spare as Second};
 ghost use Rattle.leafd_cli.specs.Folders.{contents, KeepsFiles, file_name, path, part_text};
 ghost use Rattle.leafd_cli.specs.Inspecting.{stream_text, shard_text, Inspects};
 ghost use Rattle.leafd_cli.specs.Inspections.{Reports, Pushes, ReadsDisks, ReadsShard, HasRead, HasReadAll, TurnsInto, fault_status};

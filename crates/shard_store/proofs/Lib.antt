@@ -1,2 +1,1 @@
-pub mod AreaFaults
 pub mod Listing

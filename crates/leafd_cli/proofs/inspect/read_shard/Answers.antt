@@ -1,7 +1,7 @@
 use Rattle.std.proofs.Common.{◌≡◌, ℕ, ap, sym, subst, ◌∙◌}
 use Rattle.std.specs.Prelude.{Err, MatchOption}
 use Rattle.leaf_edges.specs.Files.{CountsDisk}
-use Rattle.shard_store.specs.Stores.{ReadsStore}
+use Rattle.shard_store.specs.Reads.{ReadsStore}
 use Rattle.leafd_cli.specs.Folders.{contents}
 use Rattle.leafd_cli.proofs.Sparing.{spare_kept, handed_bytes, same_bytes, same_seen, fault_told, causes_told}
 use Rattle.leafd_cli.proofs.inspect.read_shard.Goals as goal

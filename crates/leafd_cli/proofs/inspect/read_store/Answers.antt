@@ -2,7 +2,7 @@ use Rattle.std.proofs.Common.{◌≢◌, ℕ, List, ap, sym, subst, ◌∙◌}
 use Rattle.std.specs.Prelude.{Option, Some, Ok}
 use Rattle.std.specs.Option.{option_map}
 use Rattle.leaf_edges.specs.Files.{IfHanded, GoesOut, SameFiles}
-use Rattle.shard_store.specs.declared.fault.Part.TheVariants.{Spare}
+use Rattle.record_log.specs.declared.fault.Part.TheVariants.{Spare}
 use Rattle.leafd_cli.specs.Folders.{contents, path}
 use Rattle.leafd_cli.specs.Inspections.{ReadsDisks}
 use Rattle.leafd_cli.proofs.Handing.{main_kept}

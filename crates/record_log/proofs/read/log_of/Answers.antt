@@ -2,9 +2,9 @@ use Rattle.std.proofs.Common.{ℕ, List, inl, refl, sym, subst}
 use Rattle.std.specs.Prelude.{Ok}
 use Rattle.log_replay.specs.declared.replay.Replayed.{Replayed}
 use Rattle.log_replay.specs.Replays.{Replays}
-use Rattle.shard_store.specs.Stores.{HasBadGate}
-use Rattle.shard_store.proofs.AreaFaults.{bad_body}
-use Rattle.shard_store.proofs.read.log_of.Goals as goal
+use Rattle.record_log.specs.Stores.{HasBadGate}
+use Rattle.record_log.proofs.AreaFaults.{bad_body}
+use Rattle.record_log.proofs.read.log_of.Goals as goal
 
 pub returns-in-Stops : goal.returns-in-Stops
 returns-in-Stops c =

@@ -1,8 +1,8 @@
 use Rattle.std.proofs.Common.{rules, true, false}
 use Rattle.std.proofs.lemmas.Result.{err_from_is_err_and}
-use Rattle.shard_store.specs.Stores.{OneCounts}
-use Rattle.shard_store.proofs.AreaFaults.{spare_fault, both_read, taken}
-use Rattle.shard_store.proofs.read.read_areas.Goals as goal
+use Rattle.record_log.specs.Stores.{OneCounts}
+use Rattle.record_log.proofs.AreaFaults.{spare_fault, both_read}
+use Rattle.record_log.proofs.read.read_areas.Goals as goal
 
 pub returns-in_err-second : goal.returns-in_err-second
 returns-in_err-second c =
@@ -19,14 +19,12 @@ returns-then-is_newer c =
     let b = c.args.spare.now in
     let one : OneCounts a b = search rules in
     let gates = c.in_ok-find_gates.ensures in
-    let second = c.in_ok-second.ensures in
-    both_read a b c.in_ok-first.first c.in_ok-second.second second.0 c.streams_at_end.result one gates.0 gates.1 c.in_ok-first.ensures second (taken a b second.0 true c.if-is_newer.ensures second.1) (c.streams_at_end.ensures second.0 second.1.legal second.2)
+    both_read a b c.in_ok-first.first c.in_ok-second.second one gates.0 gates.1 c.in_ok-first.ensures c.in_ok-second.ensures true c.if-is_newer.ensures
 
-pub returns : goal.returns
-returns c =
+pub returns-else-is_newer : goal.returns-else-is_newer
+returns-else-is_newer c =
     let a = c.args.main.now in
     let b = c.args.spare.now in
     let one : OneCounts a b = search rules in
     let gates = c.in_ok-find_gates.ensures in
-    let first = c.in_ok-first.ensures in
-    both_read a b c.in_ok-first.first c.in_ok-second.second first.0 c.streams_at_end-else-is_newer.result one gates.0 gates.1 first c.in_ok-second.ensures (taken a b first.0 false c.if-is_newer.ensures first.1) (c.streams_at_end-else-is_newer.ensures first.0 first.1.legal first.2)
+    both_read a b c.in_ok-first.first c.in_ok-second.second one gates.0 gates.1 c.in_ok-first.ensures c.in_ok-second.ensures false c.if-is_newer.ensures

@@ -1,18 +1,14 @@
 -- What the two disks of a shard stand for, and the first thing that is wrong with them.
-use Rattle.std.specs.Prelude.{◌≡◌, ◌⊎◌, ℕ, ◌<◌, ◌≤◌, nat_lt, true, false, not, ◌&&◌, ◌||◌, if◌then◌else◌, List, ◌∷◌, ◌++◌, length, Option, None, Some, Result, Ok, Err, ⊤}
+use Rattle.std.specs.Prelude.{◌≡◌, ◌⊎◌, ℕ, ◌<◌, ◌≤◌, nat_lt, Bool, true, false, not, ◌&&◌, ◌||◌, if◌then◌else◌, List, ◌∷◌, ◌++◌, length, Option, None, Some, Result, Ok, Err, ⊤}
 use Rattle.leaf_edges.specs.Causes.{RoseByOne}
 use Rattle.gate_journal.specs.Areas.{AreaState, Holds, no_area, IsHeadless, max_area, end_of}
 use Rattle.gate_journal.specs.declared.area.Ending.TheVariants.{Closed, Missing, Unreadable}
-use Rattle.stream_fold.specs.declared.entry.Numbered.{Numbered}
 use Rattle.record_codec.specs.declared.records.Rec.{Rec}
-use Rattle.shard_machine.specs.declared.facts.Facts.{Facts}
-use Rattle.shard_store.specs.declared.fault.Part.{Part}
-use Rattle.shard_store.specs.declared.fault.Part.TheVariants.{Main, Spare}
-use Rattle.shard_store.specs.declared.fault.StoreFault.{StoreFault}
-use Rattle.shard_store.specs.declared.fault.StoreFault.TheVariants.{ReadFault, BadJournal, TooLong, NoMemory}
-use Rattle.shard_machine.specs.Logs.{boot}
+use Rattle.record_log.specs.declared.fault.Part.{Part}
+use Rattle.record_log.specs.declared.fault.Part.TheVariants.{Main, Spare}
+use Rattle.record_log.specs.declared.fault.StoreFault.{StoreFault}
+use Rattle.record_log.specs.declared.fault.StoreFault.TheVariants.{ReadFault, BadJournal, TooLong, NoMemory}
 use Rattle.shard_machine.specs.Legal.{IsLogOf, IsNoNext}
-use Rattle.shard_store.specs.Streams.{AreStreams}
 
 -- the spare is there, and has it
 abbrev pub OnSpare : (List ℕ → Type 0) → Option (List ℕ) → Type 0
@@ -94,9 +90,13 @@ IsBadStore a b part place = IsFirst LacksHead (λ c p. OnSpare (λ bytes. LacksH
 abbrev pub IsWhole : AreaState → Type 0
 IsWhole area = (area.ending ≡ Closed) × (log : List Rec) × IsLogOf log area.bodies
 
+-- the second area is taken: it counts, and the first doesn't or has a lower generation
+abbrev pub is_passed : AreaState → AreaState → Bool
+is_passed a b = b.counts && (not a.counts || nat_lt a.generation b.generation)
+
 -- the bodies of the area that counts and has the greater generation, and of the first where the two are equal
 abbrev pub bodies_of : AreaState → AreaState → List (List ℕ)
-bodies_of a b = if b.counts && (not a.counts || nat_lt a.generation b.generation) then b.bodies else a.bodies
+bodies_of a b = if is_passed a b then b.bodies else a.bodies
 
 -- the two disks stand for this log
 pub record StoreHolds (log : List Rec) (a : List ℕ) (b : Option (List ℕ)) : Type 0 where
@@ -113,14 +113,6 @@ pub record StoreHolds (log : List Rec) (a : List ℕ) (b : Option (List ℕ)) : 
 abbrev pub AreShort : List ℕ → Option (List ℕ) → Type 0
 AreShort a None = length a ≤ max_area
 AreShort a (Some b) = (length a ≤ max_area) × (length b ≤ max_area)
-
--- what the reading of two disks answers
-abbrev pub ReadsStore : List ℕ → Option (List ℕ) → Result (ℕ × List (Facts × List Numbered)) StoreFault → Type 0
-ReadsStore a b (Ok found) = AreShort a b × (log : List Rec) × StoreHolds log a b × (found.0 ≡ boot log) × AreStreams log found.1
-ReadsStore a b (Err ReadFault) = Unit {0}
-ReadsStore a b (Err (BadJournal part place)) = AreShort a b × IsBadStore a b part place
-ReadsStore a b (Err (TooLong part len)) = IsTooLong a b part len
-ReadsStore a b (Err NoMemory) = Unit {0}
 
 -- the spare is there before and after, or neither
 abbrev pub OnSpares : {D : Type 0} → (D → D → Type 0) → Option D → Option D → Type 0

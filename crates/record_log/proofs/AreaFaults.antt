@@ -1,20 +1,20 @@
 -- The faults of an area, told by the reading of its bodies.
 use Rattle.std.proofs.Common.{◌≡◌, ◌≢◌, ⊎_elim, inr, ℕ, ◌&&◌, ◌||◌, not, nat_lt, List, [], ◌∷◌, ◌++◌, take, map, refl, sym, ◌∙◌, ap, subst, append_assoc, append-nil}
-use Rattle.std.specs.Prelude.{zero, suc, Bool, Some, Result, Ok, Err, if◌then◌else◌, slice_get}
+use Rattle.std.specs.Prelude.{zero, suc, Bool, true, false, Some, Result, Ok, Err, if◌then◌else◌, slice_get}
 use Rattle.gate_journal.specs.Areas.{AreaState, end_of}
 use Rattle.gate_journal.specs.declared.area.Ending.{Ending}
 use Rattle.gate_journal.specs.declared.area.Ending.TheVariants.{Closed, Missing, Unreadable}
-use Rattle.stream_fold.specs.declared.entry.Numbered.{Numbered}
 use Rattle.record_codec.specs.declared.records.Rec.{Rec}
 use Rattle.record_codec.specs.Reading.{reading}
-use Rattle.shard_machine.specs.declared.facts.Facts.{Facts}
-use Rattle.shard_store.specs.declared.fault.Part.TheVariants.{Main, Spare}
-use Rattle.shard_store.specs.declared.fault.StoreFault.{StoreFault}
-use Rattle.shard_store.specs.declared.fault.StoreFault.TheVariants.{ReadFault, BadJournal, TooLong, NoMemory}
+use Rattle.record_codec.specs.Spelling.{spelling}
+use Rattle.record_log.specs.declared.fault.Part.TheVariants.{Main, Spare}
+use Rattle.record_log.specs.declared.fault.StoreFault.{StoreFault}
+use Rattle.record_log.specs.declared.fault.StoreFault.TheVariants.{ReadFault, BadJournal, TooLong, NoMemory}
 use Rattle.log_replay.specs.declared.replay.Replay.{Replay}
 use Rattle.shard_machine.specs.Legal.{IsLogOf, IsNoNext, MayFollow, MayAllFollow}
-use Rattle.shard_store.specs.Stores.{LacksGate, HasBadBody, EndsWithBadLength, HasBadGate, HasNo, IsWhole, OneCounts, bodies_of}
-use Rattle.shard_store.specs.Reads.{ReadsAreas, ReadsLog, ShowsLog}
+use Rattle.log_replay.specs.Replays.{IsReplayOf}
+use Rattle.record_log.specs.Stores.{LacksGate, HasBadBody, EndsWithBadLength, HasBadGate, HasNo, IsWhole, OneCounts, is_passed, bodies_of}
+use Rattle.record_log.specs.Reads.{ReadsAreas, ReadsLog}
 
 -- a list around one of its items
 around : {A : Type 0} (xs : List A) (i : ℕ) (x : A) → slice_get xs i ≡ Some x → (after : List A) × (xs ≡ take i xs ++ x ∷ after)
@@ -68,14 +68,22 @@ spare_fault a b first (BadJournal part place) one gates gates' log bad = inr (in
 spare_fault a b first (TooLong part len) one gates gates' log bad = bad
 spare_fault a b first NoMemory one gates gates' log bad = tt
 
--- both areas' logs were read, and of the one that is taken this is shown
-pub both_read : (a b : AreaState) (first second : Replay) (log : List Rec) (result : Result (ℕ × List (Facts × List Numbered)) StoreFault) → OneCounts a b → HasNo LacksGate a → HasNo LacksGate b → ReadsLog Main a (Ok first) → ReadsLog Spare b (Ok second) → IsLogOf log (bodies_of a b) → ShowsLog log result → ReadsAreas a b result
-both_read a b first second log (Ok found) one gates gates' f s is shows = (one, whole_area a f.0 f.1 f.3 gates, whole_area b s.0 s.1 s.3 gates', log, is, shows.0, shows.1)
-both_read a b first second log (Err ReadFault) one gates gates' f s is shows = shows
-both_read a b first second log (Err (BadJournal part place)) one gates gates' f s is shows = absurd shows
-both_read a b first second log (Err (TooLong part len)) one gates gates' f s is shows = shows
-both_read a b first second log (Err NoMemory) one gates gates' f s is shows = tt
-
--- the log of the area that is taken
-pub taken : (a b : AreaState) (log : List Rec) (newer : Bool) → newer ≡ (b.counts && (not a.counts || nat_lt a.generation b.generation)) → IsLogOf log (if newer then b.bodies else a.bodies) → IsLogOf log (bodies_of a b)
-taken a b log newer is stands = subst (λ (k : Bool). IsLogOf log (if k then b.bodies else a.bodies)) is stands
+-- both areas' logs were read, and this is what is held of the one that is taken
+pub both_read : (a b : AreaState) (first second : Replay) → OneCounts a b → HasNo LacksGate a → HasNo LacksGate b → ReadsLog Main a (Ok first) → ReadsLog Spare b (Ok second)
+    → (newer : Bool) → newer ≡ is_passed a b → ReadsAreas a b (Ok (newer, if newer then second else first))
+both_read a b first second one gates gates' f s newer is =
+    let bodies = λ (p : Bool). if p then b.bodies else a.bodies in
+    let taken = by newer in (
+      one,
+      whole_area a f.0 f.1 f.3 gates,
+      whole_area b s.0 s.1 s.3 gates',
+      is,
+      taken.0,
+      subst (λ (p : Bool). IsLogOf taken.0 (bodies p)) is taken.1,
+      taken.2,
+      subst (λ (p : Bool). bodies p ≡ map spelling taken.0) is taken.3,
+    )
+  where
+    by : (p : Bool) → (log : List Rec) × IsLogOf log (if p then b.bodies else a.bodies) × IsReplayOf (if p then second else first) log × ((if p then b.bodies else a.bodies) ≡ map spelling log)
+    by true = (s.0, s.1, s.2, s.4)
+    by false = (f.0, f.1, f.2, f.4)

@@ -1,0 +1,6 @@
+mod AreaFaults
+mod Areas
+mod Growing
+mod Loads
+mod Reopening
+mod Running

@@ -1,0 +1,9 @@
+pub mod Stores
+pub mod Reads
+pub mod Standing
+pub mod LogStates
+pub mod Serving
+pub mod Appending
+pub mod Opening
+pub mod Loading
+pub mod Fuses

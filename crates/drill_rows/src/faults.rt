@@ -1,6 +1,7 @@
 use crate::run::{Want, check_with};
 use leaf_edges::{EdgeError, MemSink, MemSource, Source};
 use leafd_cli::Status;
+use leafd_conf::ConfKind;
 use leafd_script::ScriptKind;
 use nats_text::Bytes;
 use std::test::Fail;
@@ -13,7 +14,7 @@ const USAGE: &[u8] =
 
 #[test]
 fn words_that_are_no_command(rt: HostRuntime) -> Result<(), Fail> {
-    let rows: [&[&str]; 13] = [
+    let rows: [&[&str]; 18] = [
         &[],
         &[""],
         &["drills"],
@@ -27,6 +28,11 @@ fn words_that_are_no_command(rt: HostRuntime) -> Result<(), Fail> {
         &["map", "foo.*", "bar.$1"],
         &["map", "foo.*", "bar.$1", "foo.a", "foo.a"],
         &["Map", "foo.*", "bar.$1", "foo.a"],
+        &["map", "-a", "b", "-a"],
+        &["check"],
+        &["check", "hub.toml", "hub.toml"],
+        &["check", "-hub.toml"],
+        &["--help"],
     ];
     for words in rows {
         let alloc = rt.alloc();
@@ -109,6 +115,10 @@ fn statuses_have_their_numbers(rt: HostRuntime) {
         line: 1,
         kind: ScriptKind::BadLine,
     };
+    let conf = Status::ConfFault {
+        kind: ConfKind::NoFile,
+        member: Bytes::new(alloc),
+    };
     let bad = Status::BadJournal {
         name: Bytes::new(alloc),
         place: 0,
@@ -123,6 +133,7 @@ fn statuses_have_their_numbers(rt: HostRuntime) {
     };
     assert_eq!(rt; Status::Done.number(), 0);
     assert_eq!(rt; line.number(), 1);
+    assert_eq!(rt; conf.number(), 1);
     assert_eq!(rt; Status::Usage.number(), 2);
     assert_eq!(rt; Status::ReadFault.number(), 3);
     assert_eq!(rt; Status::WriteFault.number(), 4);

@@ -1,6 +1,9 @@
-//! Worked drills and mappings: what `leafd drill` prints of scripts, and `leafd map` of subjects.
+//! Worked drills, configurations and mappings: what `leafd drill` prints of scripts, `leafd check` of files, and
+//! `leafd map` of subjects.
 #![tactic(auto)]
 
+#[cfg(test)]
+mod checks;
 #[cfg(test)]
 mod faults;
 #[cfg(test)]

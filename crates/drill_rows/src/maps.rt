@@ -51,6 +51,21 @@ fn a_mapped_subject_is_printed(rt: HostRuntime) -> Result<(), Fail> {
     Ok(())
 }
 
+// Behind the word `--` a value may begin with `-`.
+#[test]
+fn words_that_begin_with_a_dash(rt: HostRuntime) -> Result<(), Fail> {
+    let alloc = rt.alloc();
+    let words = ["map", "--", "-a", "--b", "-a"];
+    let input = MemSource::new(Vec::new(alloc), Vec::new(alloc));
+    let out = MemSink::new(Vec::new(alloc), Vec::new(alloc));
+    let want = Want {
+        number: 0,
+        out: b"--b\n",
+        err: b"",
+    };
+    check_with(&rt, alloc, &words, input, out, &want)
+}
+
 #[test]
 fn what_maps_to_no_subject(rt: HostRuntime) -> Result<(), Fail> {
     let rows = [

@@ -1,4 +1,6 @@
-use leaf_edges::{MemSink, MemSource, Source};
+ghost use Rattle.std.specs.Prelude.{◌≡◌, List as Items, ℕ, false};
+
+use leaf_edges::{Files, MemSink, MemSource, Source};
 use leafd_cli::leafd_run;
 use mem_disk::{MemFiles, SetClock};
 use std::alloc::Global;
@@ -30,14 +32,30 @@ pub fn check_with<S: Source>(
     out: MemSink,
     want: &Want<'_>,
 ) -> Result<(), Fail> {
+    let files = MemFiles::new(alloc, Vec::new(alloc), Vec::new(alloc), Vec::new(alloc));
+    check_over(rt, alloc, words, input, files, out, want)
+}
+
+/// Runs the command of these words over these files.
+pub fn check_over<S: Source, F: Files>(
+    rt: &impl Abort,
+    alloc: Global,
+    words: &[&str],
+    input: S,
+    files: F,
+    out: MemSink,
+    want: &Want<'_>,
+) -> Result<(), Fail>
+    requires { F.tells → (name : Items ℕ) → F.is_out files name ≡ false }
+{
     let mut input = input;
+    let mut files = files;
     let mut out = out;
     let mut err = MemSink::new(Vec::new(alloc), Vec::new(alloc));
     let mut texts = Vec::new(alloc);
     for word in words {
         texts.push(String::from_str(alloc, word)?)?;
     }
-    let mut files = MemFiles::new(alloc, Vec::new(alloc), Vec::new(alloc), Vec::new(alloc));
     let mut clock = SetClock::new(Vec::new(alloc));
     let status = leafd_run(
         alloc, &texts, &mut input, &mut out, &mut err, &mut files, &mut clock,

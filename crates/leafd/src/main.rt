@@ -43,7 +43,7 @@ fn run<I: Source, O: Sink, E: Sink, F: Files, K: Clock>(
 ) -> ExitCode
     requires in_place { F.tells → (name : Items ℕ) → F.is_out files.old name ≡ false }
     ensures number { (status : Status) × (exit_status result ≡ status_number status) × Tells (E.taken err.old) (E.taken err.new) status
-        × Ends (map string_bytes words.now) F.tells (contents F.place F.D.seen files.old)
+        × Ends (map string_bytes words.now) F.tells (contents F.place F.D.seen files.old) (F.text_of files.old)
         (shown (I.left input.old) (O.taken out.old) (I.faults input.old) (O.faults out.old) (F.faults files.old) (F.disk_faults files.old))
         (shown (I.left input.new) (O.taken out.new) (I.faults input.new) (O.faults out.new) (F.faults files.new) (F.disk_faults files.new)) status }
 {

@@ -1,4 +1,6 @@
 mod Books
+mod Checks
+mod Commands
 mod Cuts
 mod Feeds
 mod Placing

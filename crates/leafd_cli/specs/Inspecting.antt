@@ -12,7 +12,7 @@ use Rattle.shard_machine.specs.Logs.{boot}
 use Rattle.shard_store.specs.Streams.{AreStreams}
 use Rattle.record_log.specs.Stores.{StoreHolds, AreShort, IsBadStore, IsTooLong}
 use Rattle.leafd_cli.specs.declared.status.Status.{Status}
-use Rattle.leafd_cli.specs.declared.status.Status.TheVariants.{Done, ScriptFault, Usage, ReadFault, WriteFault, DiskFault, NoMemory, ScriptTooLong, BadJournal, JournalTooLong, BadTransform, NoMatch}
+use Rattle.leafd_cli.specs.declared.status.Status.TheVariants.{Done, ScriptFault, ConfFault, Usage, ReadFault, WriteFault, DiskFault, NoMemory, ScriptTooLong, BadJournal, JournalTooLong, BadTransform, NoMatch}
 use Rattle.leafd_cli.specs.Report.{numbers_text, row_text}
 use Rattle.leafd_cli.specs.Folders.{file_name, path}
 
@@ -73,6 +73,7 @@ InspectsInPart tells files dir before after = (text : List ℕ) × AppendsPrefix
 abbrev pub Inspects : Type 0 → (List ℕ → Option (List ℕ)) → List ℕ → Option (List ℕ) → Option (List ℕ) → Status → Type 0
 Inspects tells files dir before after Done = (text : List ℕ) × Appends before after text × (tells → ShowsBelow files dir shard_count text)
 Inspects tells files dir before after (ScriptFault line kind) = ⊥
+Inspects tells files dir before after (ConfFault kind key) = ⊥
 Inspects tells files dir before after Usage = ⊥
 Inspects tells files dir before after ReadFault = Keeps before after
 Inspects tells files dir before after WriteFault = InspectsInPart tells files dir before after

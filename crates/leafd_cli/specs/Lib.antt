@@ -1,4 +1,5 @@
 pub mod Book
+pub mod Checking
 pub mod Copies
 pub mod Effects
 pub mod Folders

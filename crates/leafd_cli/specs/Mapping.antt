@@ -1,33 +1,13 @@
 -- What a mapping of a subject prints, and how it may end.
 use Rattle.std.specs.Prelude.{◌≡◌, ◌⊎◌, ℕ, List, [], ◌∷◌, ◌++◌, if◌then◌else◌, Option, None, Some, IsTrue, codes}
-use Rattle.std.specs.Str.{bytes_eq}
 use Rattle.std.specs.Io.KnownBytes.{Appends, Keeps}
 use Rattle.leaf_edges.specs.Causes.{AppendsPrefix}
 use Rattle.nats_text.specs.Text.{is_subject}
 use Rattle.subject_transform.specs.declared.fault.TransformFault.TheVariants.{Bad}
 use Rattle.subject_transform.specs.Transforms.{without_blanks, is_transform, IsFault, sub}
-use Rattle.leafd_cli.specs.declared.mapping.MapWords.{MapWords}
+use Rattle.leafd_words.specs.Commands.{MapTexts}
 use Rattle.leafd_cli.specs.declared.status.Status.{Status}
-use Rattle.leafd_cli.specs.declared.status.Status.TheVariants.{Done, ScriptFault, Usage, ReadFault, WriteFault, DiskFault, NoMemory, ScriptTooLong, BadJournal, JournalTooLong, BadTransform, NoMatch}
-
--- the words behind `map`: the two texts of a transform, and the text that it is given
-pub record MapTexts : Type 0 where
-  pub src : List ℕ
-  pub dest : List ℕ
-  pub subject : List ℕ
-
--- the texts of these words
-abbrev pub texts_of : MapWords → MapTexts
-texts_of words = record { src = words.src.now; dest = words.dest.now; subject = words.subject.now }
-
--- the three words behind the word `map`
-abbrev pub map_texts : List (List ℕ) → Option MapTexts
-map_texts [] = None
-map_texts (word ∷ []) = None
-map_texts (word ∷ src ∷ []) = None
-map_texts (word ∷ src ∷ dest ∷ []) = None
-map_texts (word ∷ src ∷ dest ∷ subject ∷ []) = if bytes_eq word (codes "map") then Some (record { src = src; dest = dest; subject = subject }) else None
-map_texts (word ∷ src ∷ dest ∷ subject ∷ next ∷ words) = None
+use Rattle.leafd_cli.specs.declared.status.Status.TheVariants.{Done, ScriptFault, ConfFault, Usage, ReadFault, WriteFault, DiskFault, NoMemory, ScriptTooLong, BadJournal, JournalTooLong, BadTransform, NoMatch}
 
 -- the two texts are a transform
 abbrev pub AreTransform : MapTexts → Type 0
@@ -52,6 +32,7 @@ MapsInPart texts before after = (line : List ℕ) × IsMapLine texts line × App
 abbrev pub Maps : MapTexts → Option (List ℕ) → Option (List ℕ) → Status → Type 0
 Maps texts before after Done = (line : List ℕ) × IsMapLine texts line × Appends before after line
 Maps texts before after (ScriptFault line kind) = ⊥
+Maps texts before after (ConfFault kind key) = ⊥
 Maps texts before after Usage = ⊥
 Maps texts before after ReadFault = ⊥
 Maps texts before after WriteFault = MapsInPart texts before after

@@ -1,20 +1,22 @@
 -- How a command may end, and what it has then read and written.
-use Rattle.std.specs.Prelude.{◌≡◌, ◌⊎◌, ℕ, ◌+◌, ◌-◌, ◌^◌, ◌<◌, ◌≤◌, min, List, [], ◌∷◌, ◌++◌, length, Bool, false, ◌||◌, if◌then◌else◌, MatchBool, MatchOption, Option, None, Some, is_some, codes, decimal}
-use Rattle.std.specs.Str.{bytes_eq}
+use Rattle.std.specs.Prelude.{◌≡◌, ◌⊎◌, ℕ, ◌+◌, ◌-◌, ◌^◌, ◌<◌, ◌≤◌, min, List, [], ◌∷◌, ◌++◌, length, Option, None, Some, codes, decimal}
 use Rattle.std.specs.Io.KnownBytes.{Appends, Keeps, Consumes, IsAtEnd}
 use Rattle.leaf_edges.specs.Causes.{Rose, AppendsPrefix}
 use Rattle.leafd_script.specs.declared.fault.ScriptKind.{ScriptKind}
 use Rattle.leafd_script.specs.Kinds.{kind_word}
+use Rattle.leafd_conf.specs.declared.fault.ConfKind.{ConfKind}
+use Rattle.leafd_conf.specs.declared.fault.ConfKind.TheVariants.{NoFile, Syntax}
+use Rattle.leafd_conf.specs.Kinds as confs
 use Rattle.subject_transform.specs.Kinds as transforms
 use Rattle.leafd_cli.specs.declared.status.Status.{Status}
-use Rattle.leafd_cli.specs.declared.status.Status.TheVariants.{Done, ScriptFault, Usage, ReadFault, WriteFault, DiskFault, NoMemory, ScriptTooLong, BadJournal, JournalTooLong, BadTransform, NoMatch}
-use Rattle.leafd_cli.specs.Mapping.{MapTexts, map_texts}
+use Rattle.leafd_cli.specs.declared.status.Status.TheVariants.{Done, ScriptFault, ConfFault, Usage, ReadFault, WriteFault, DiskFault, NoMemory, ScriptTooLong, BadJournal, JournalTooLong, BadTransform, NoMatch}
 use Rattle.leafd_cli.specs.Reporting.{Prints}
 
 -- the number that the process ends with
 abbrev pub status_number : Status → ℕ
 status_number Done = 0
 status_number (ScriptFault line kind) = 1
+status_number (ConfFault kind key) = 1
 status_number Usage = 2
 status_number ReadFault = 3
 status_number WriteFault = 4
@@ -26,10 +28,17 @@ status_number (JournalTooLong name len) = 12
 status_number (BadTransform place kind) = 1
 status_number NoMatch = 9
 
+-- a kind of fault of a configuration file and, where a member is at fault, its name; then LF
+abbrev pub conf_fault : ConfKind → List ℕ → List ℕ
+conf_fault NoFile key = codes "NoFile\n"
+conf_fault Syntax key = codes "Syntax\n"
+conf_fault kind key = confs.kind_word kind ++ 32 ∷ (key ++ codes "\n")
+
 -- the line by which a status is told, none where all is done
 abbrev pub status_line : Status → List ℕ
 status_line Done = []
 status_line (ScriptFault line kind) = codes "leafd: line " ++ (decimal line ++ (codes ": " ++ (kind_word kind ++ codes "\n")))
+status_line (ConfFault kind key) = codes "leafd: conf: " ++ conf_fault kind key
 status_line Usage = codes "leafd: usage: leafd drill | make NUMBER LINES | trial NUMBER LINES | check CONF | inspect DIR | map SRC DEST SUBJECT | serve CONF\n"
 status_line ReadFault = codes "leafd: read fault\n"
 status_line WriteFault = codes "leafd: write fault\n"
@@ -40,27 +49,6 @@ status_line (BadJournal name place) = codes "leafd: bad journal " ++ (name ++ (c
 status_line (JournalTooLong name len) = codes "leafd: journal too long " ++ (name ++ codes "\n")
 status_line (BadTransform place kind) = codes "leafd: transform: " ++ (transforms.kind_word kind ++ (codes " at " ++ (decimal place ++ codes "\n")))
 status_line NoMatch = codes "leafd: no match\n"
-
--- the words are `drill` alone
-abbrev pub is_drill : List (List ℕ) → Bool
-is_drill [] = false
-is_drill (word ∷ []) = bytes_eq word (codes "drill")
-is_drill (word ∷ next ∷ words) = false
-
--- the folder behind the word `inspect`
-abbrev pub folder : List (List ℕ) → Option (List ℕ)
-folder [] = None
-folder (word ∷ []) = None
-folder (word ∷ dir ∷ []) = if bytes_eq word (codes "inspect") then Some dir else None
-folder (word ∷ dir ∷ next ∷ words) = None
-
--- the words that are a command
-abbrev pub are_command : List (List ℕ) → Bool
-are_command words = is_drill words || is_some (folder words) || is_some (map_texts words)
-
--- what holds of a drill, of an inspection of a folder, of a mapping of a subject, and of words that are no command
-abbrev pub ByWords : List (List ℕ) → Type 0 → (List ℕ → Type 0) → (MapTexts → Type 0) → Type 0 → Type 0
-ByWords words drills inspects maps none = MatchBool (is_drill words) drills (MatchOption (folder words) (MatchOption (map_texts words) none maps) inspects)
 
 -- a source gave this text and then its end
 pub record IsRead (old new : Option (List ℕ)) (text : List ℕ) : Type 0 where
@@ -81,6 +69,7 @@ HasRun left rest before after status = (text : List ℕ) × IsRead left rest tex
 abbrev pub Drills : Option (List ℕ) → Option (List ℕ) → Option (List ℕ) → Option (List ℕ) → Status → Type 0
 Drills left rest before after Done = HasRun left rest before after Done
 Drills left rest before after (ScriptFault line kind) = HasRun left rest before after (ScriptFault line kind)
+Drills left rest before after (ConfFault kind key) = ⊥
 Drills left rest before after Usage = ⊥
 Drills left rest before after ReadFault = Keeps before after
 Drills left rest before after WriteFault = HasRun left rest before after WriteFault

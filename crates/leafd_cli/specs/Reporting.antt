@@ -4,7 +4,7 @@ use Rattle.std.specs.Io.KnownBytes.{Appends}
 use Rattle.leaf_edges.specs.Causes.{AppendsPrefix}
 use Rattle.leafd_script.specs.declared.fault.ScriptKind.{ScriptKind}
 use Rattle.leafd_cli.specs.declared.status.Status.{Status}
-use Rattle.leafd_cli.specs.declared.status.Status.TheVariants.{Done, ScriptFault, Usage, ReadFault, WriteFault, DiskFault, NoMemory, ScriptTooLong, BadJournal, JournalTooLong, BadTransform, NoMatch}
+use Rattle.leafd_cli.specs.declared.status.Status.TheVariants.{Done, ScriptFault, ConfFault, Usage, ReadFault, WriteFault, DiskFault, NoMemory, ScriptTooLong, BadJournal, JournalTooLong, BadTransform, NoMatch}
 use Rattle.leafd_cli.specs.Logs.{Logs, no_logs}
 use Rattle.leafd_cli.specs.ScriptLines.{ScriptLine, lines_of}
 use Rattle.leafd_cli.specs.Legal.{judged}
@@ -44,6 +44,7 @@ pub record PrintsPart (text : List ℕ) (before after : Option (List ℕ)) : Typ
 abbrev pub Prints : List ℕ → Option (List ℕ) → Option (List ℕ) → Status → Type 0
 Prints text before after Done = PrintsAll text before after
 Prints text before after (ScriptFault number kind) = PrintsBefore number kind text before after
+Prints text before after (ConfFault kind key) = ⊥
 Prints text before after WriteFault = PrintsPart text before after
 Prints text before after NoMemory = PrintsPart text before after
 Prints text before after Usage = ⊥

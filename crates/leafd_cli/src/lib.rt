@@ -1,7 +1,9 @@
-//! The commands of `leafd`: `drill` runs a script and prints the report of a right book, `inspect` prints
-//! what a store holds, and `map` what a transform makes of a subject.
+//! The commands of `leafd`: `drill` runs a script and prints the report of a right book, `check` prints whether a
+//! configuration file is that of a hub or of a leaf, `inspect` what a store holds, and `map` what a transform makes
+//! of a subject.
 #![tactic(auto)]
 
+mod check;
 mod drill;
 mod effects;
 mod finding;

@@ -1,24 +1,18 @@
 ghost use Rattle.std.specs.Prelude.{◌≡◌, ◌++◌, ◌∷◌, [], ℕ, IfOk, IfErr, MatchOption, None};
 ghost use Rattle.subject_transform.specs.Transforms.{IsFault};
 ghost use Rattle.leafd_cli.specs.declared.status.Status.TheVariants.{Usage};
-ghost use Rattle.leafd_cli.specs.Mapping.{Maps, AreTransform, IsMapLine, texts_of, made_of};
+ghost use Rattle.leafd_words.specs.Commands.{texts_of};
+ghost use Rattle.leafd_cli.specs.Mapping.{Maps, AreTransform, IsMapLine, made_of};
 ghost use Rattle.leafd_cli.specs.Outcome.{CountsWrite, CountsDisks};
 
 use crate::Status;
 use crate::output::write_report;
 use crate::texts::push_text;
 use leaf_edges::Sink;
+use leafd_words::MapWords;
 use nats_text::{NoMemory, Subject, TextFault};
 use std::alloc::Global;
 use subject_transform::{Transform, TransformFault};
-
-/// The words behind `map`: the two texts of a transform, and the text that it is given.
-#[derive(Clone, Copy)]
-pub struct MapWords<'a> {
-    pub src: &'a [u8],
-    pub dest: &'a [u8],
-    pub subject: &'a [u8],
-}
 
 /// Prints the subject that a transform makes of a text.
 pub fn map_subject<O: Sink>(alloc: Global, words: MapWords<'_>, out: &mut O) -> Status

@@ -1,6 +1,7 @@
 ghost use Rattle.std.specs.Prelude.{◌≡◌};
 ghost use Rattle.leafd_cli.specs.Outcome.{status_number};
 
+use leafd_conf::ConfKind;
 use leafd_script::ScriptKind;
 use nats_text::Bytes;
 use subject_transform::TransformKind;
@@ -13,9 +14,12 @@ pub enum Status {
     /// The line of this number, counted from 1, isn't legal in its place. The report before it is
     /// written.
     ScriptFault { line: u64, kind: ScriptKind },
+    /// The configuration file isn't there or is none, with its first fault and the member at fault. Nothing was
+    /// written.
+    ConfFault { kind: ConfKind, member: Bytes },
     /// The words are no command.
     Usage,
-    /// The input failed, or the folder of a store. Nothing was written.
+    /// The input failed, or the folder of a store or a configuration file. Nothing was written.
     ReadFault,
     /// The output failed. A prefix of the report was written.
     WriteFault,
@@ -45,6 +49,7 @@ impl Status {
         match self {
             Status::Done => 0,
             Status::ScriptFault { .. } => 1,
+            Status::ConfFault { .. } => 1,
             Status::Usage => 2,
             Status::ReadFault => 3,
             Status::WriteFault => 4,

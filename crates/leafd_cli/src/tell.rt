@@ -1,13 +1,14 @@
-ghost use Rattle.std.specs.Prelude.{◌++◌, codes, decimal};
+ghost use Rattle.std.specs.Prelude.{◌++◌, ◌∷◌, codes, decimal};
 ghost use Rattle.std.specs.List.{flat_map};
 ghost use Rattle.leaf_edges.specs.Causes.{Pumps};
 ghost use Rattle.leafd_script.specs.Kinds.{kind_word};
 ghost use Rattle.subject_transform.specs.Kinds.{kind_word as transform_word};
-ghost use Rattle.leafd_cli.specs.Outcome.{Tells};
+ghost use Rattle.leafd_cli.specs.Outcome.{Tells, conf_fault};
 
 use crate::Status;
 use itoa::Buffer;
 use leaf_edges::{EdgeError, Sink, pump_all};
+use leafd_conf::ConfKind;
 use leafd_script::ScriptKind;
 use subject_transform::TransformKind;
 
@@ -21,6 +22,7 @@ pub fn tell<E: Sink>(err: &mut E, status: &Status)
     let _ = match status {
         Status::Done => Ok(()),
         Status::ScriptFault { line, kind } => tell_line(err, *line, *kind),
+        Status::ConfFault { kind, member } => tell_conf(err, *kind, member.as_slice()),
         Status::Usage => pump_all(err, USAGE),
         Status::ReadFault => pump_all(err, b"leafd: read fault\n"),
         Status::WriteFault => pump_all(err, b"leafd: write fault\n"),
@@ -42,6 +44,32 @@ fn tell_line<E: Sink>(err: &mut E, line: u64, kind: ScriptKind) -> Result<(), Ed
     let number = digits.format(line).as_bytes();
     let word = kind.word().as_bytes();
     pump_pieces(err, &[b"leafd: line ", number, b": ", word, b"\n"])
+}
+
+/// Writes what is wrong with a configuration file, and with which member.
+fn tell_conf<E: Sink>(err: &mut E, kind: ConfKind, member: &[u8]) -> Result<(), EdgeError>
+    ensures { Pumps (E.taken err.old) (E.taken err.new) result (codes "leafd: conf: " ++ conf_fault kind member.now) }
+{
+    match kind {
+        ConfKind::NoFile | ConfKind::Syntax => tell_kind(err, kind.word().as_bytes()),
+        ConfKind::Unknown | ConfKind::Missing | ConfKind::BadValue => {
+            tell_member(err, kind.word().as_bytes(), member)
+        }
+    }
+}
+
+/// The line of a fault that is no member's.
+fn tell_kind<E: Sink>(err: &mut E, word: &[u8]) -> Result<(), EdgeError>
+    ensures { Pumps (E.taken err.old) (E.taken err.new) result (codes "leafd: conf: " ++ (word.now ++ codes "\n")) }
+{
+    pump_pieces(err, &[b"leafd: conf: ", word, b"\n"])
+}
+
+/// The line of a fault of a member.
+fn tell_member<E: Sink>(err: &mut E, word: &[u8], member: &[u8]) -> Result<(), EdgeError>
+    ensures { Pumps (E.taken err.old) (E.taken err.new) result (codes "leafd: conf: " ++ (word.now ++ 32 ∷ (member.now ++ codes "\n"))) }
+{
+    pump_pieces(err, &[b"leafd: conf: ", word, b" ", member, b"\n"])
 }
 
 /// Writes which file is no journal, and where.

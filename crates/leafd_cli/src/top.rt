@@ -1,25 +1,29 @@
-ghost use Rattle.std.specs.Prelude.{◌≡◌, ◌≤◌, List as Items, ℕ, Some, None, false, length, map};
+ghost use Rattle.std.specs.Prelude.{◌≡◌, ◌≤◌, List as Items, ℕ, Some, false, length, map};
 ghost use Rattle.std.specs.String.{string_bytes};
-ghost use Rattle.std.specs.Option.{option_map};
+ghost use Rattle.leaf_edges.specs.Files.{SameFiles};
+ghost use Rattle.leafd_words.specs.Commands.{command as named, command_of};
 ghost use Rattle.leafd_cli.specs.declared.status.Status.TheVariants.{Usage};
 ghost use Rattle.leafd_cli.specs.Reporting.{Prints};
 ghost use Rattle.leafd_cli.specs.Folders.{contents, KeepsFiles};
-ghost use Rattle.leafd_cli.specs.Runs.{Ends, shown};
-ghost use Rattle.leafd_cli.specs.Outcome.{Drills, Tells, CountsRead, CountsWrite, CountsDisks, ByWords, is_drill, folder};
-ghost use Rattle.leafd_cli.specs.Mapping.{map_texts, texts_of};
+ghost use Rattle.leafd_cli.specs.Runs.{ByCommand, Does, Ends, shown};
+ghost use Rattle.leafd_cli.specs.Outcome.{Drills, Tells, CountsRead, CountsWrite, CountsDisks};
 
 use crate::Status;
+use crate::check::check;
 use crate::drill::run_script;
 use crate::input::{LONGEST, read_all};
 use crate::inspect::inspect;
-use crate::mapping::{MapWords, map_subject};
+use crate::mapping::map_subject;
 use crate::tell::tell;
 use leaf_edges::{Clock, EdgeError, Files, Sink, Source};
+use leafd_words::{Words, WordsFault, read_words};
 use std::alloc::Global;
 
 /// Does the command that the words name: `drill` reads a script from `input` and writes its report
-/// to `out`; `inspect` with a folder writes to `out` what the store in this folder of `files` holds; `map` with
+/// to `out`; `check` with a file writes to `out` whether this configuration of `files` is that of a hub or of a
+/// leaf; `inspect` with a folder writes to `out` what the store in this folder of `files` holds; `map` with
 /// a source, a destination and a subject writes to `out` what this transform makes of the subject.
+/// A word that begins with `-` is a value only behind the word `--`.
 /// Every status but `Done` writes its line to `err`, where a fault is passed over. No command asks the
 /// clock yet.
 pub fn leafd_run<I: Source, O: Sink, E: Sink, F: Files, K: Clock>(
@@ -33,13 +37,15 @@ pub fn leafd_run<I: Source, O: Sink, E: Sink, F: Files, K: Clock>(
 ) -> Status
     requires in_place { F.tells → (name : Items ℕ) → F.is_out files.old name ≡ false }
 
-    ensures ends { Ends (map string_bytes words.now) F.tells (contents F.place F.D.seen files.old)
+    ensures ends { Ends (map string_bytes words.now) F.tells (contents F.place F.D.seen files.old) (F.text_of files.old)
         (shown (I.left input.old) (O.taken out.old) (I.faults input.old) (O.faults out.old) (F.faults files.old) (F.disk_faults files.old))
         (shown (I.left input.new) (O.taken out.new) (I.faults input.new) (O.faults out.new) (F.faults files.new) (F.disk_faults files.new)) result }
     ensures told { Tells (E.taken err.old) (E.taken err.new) result }
 
     // What a command doesn't use stays, and what is used of the files is put back.
-    ensures unused { ByWords (map string_bytes words.now) (files.new ≡ files.old) (λ _. input.new ≡ input.old)
+    ensures unused { ByCommand (command_of (map string_bytes words.now)) (files.new ≡ files.old)
+        (λ _. (input.new ≡ input.old) × (F.tells → SameFiles F.place F.is_out F.handed F.text_of files.old files.new))
+        (λ _. input.new ≡ input.old)
         (λ _. (files.new ≡ files.old) × (input.new ≡ input.old)) ((files.new ≡ files.old) × (input.new ≡ input.old)) }
     ensures kept { F.tells → KeepsFiles F.place F.is_out F.D.seen files.old files.new }
     ensures leads { F.leads files.old files.new }
@@ -51,6 +57,7 @@ pub fn leafd_run<I: Source, O: Sink, E: Sink, F: Files, K: Clock>(
     status
 }
 
+/// Does the command that the words name.
 fn command<I: Source, O: Sink, F: Files>(
     alloc: Global,
     words: &[String],
@@ -59,61 +66,49 @@ fn command<I: Source, O: Sink, F: Files>(
     files: &mut F,
 ) -> Status
     requires in_place { F.tells → (name : Items ℕ) → F.is_out files.old name ≡ false }
-    ensures ends { Ends (map string_bytes words.now) F.tells (contents F.place F.D.seen files.old)
+    ensures ends { Ends (map string_bytes words.now) F.tells (contents F.place F.D.seen files.old) (F.text_of files.old)
         (shown (I.left input.old) (O.taken out.old) (I.faults input.old) (O.faults out.old) (F.faults files.old) (F.disk_faults files.old))
         (shown (I.left input.new) (O.taken out.new) (I.faults input.new) (O.faults out.new) (F.faults files.new) (F.disk_faults files.new)) result }
-    ensures unused { ByWords (map string_bytes words.now) (files.new ≡ files.old) (λ _. input.new ≡ input.old)
+    ensures unused { ByCommand (command_of (map string_bytes words.now)) (files.new ≡ files.old)
+        (λ _. (input.new ≡ input.old) × (F.tells → SameFiles F.place F.is_out F.handed F.text_of files.old files.new))
+        (λ _. input.new ≡ input.old)
         (λ _. (files.new ≡ files.old) × (input.new ≡ input.old)) ((files.new ≡ files.old) × (input.new ≡ input.old)) }
     ensures kept { F.tells → KeepsFiles F.place F.is_out F.D.seen files.old files.new }
     ensures leads { F.leads files.old files.new }
 {
-    if is_drill(words) {
-        return drill(alloc, input, out);
-    }
-    if let Some(dir) = folder(words) {
-        return inspect(alloc, dir, files, out);
-    }
-    match map_words(words) {
-        Some(texts) => map_subject(alloc, texts, out),
-        None => Status::Usage,
+    match read_words(alloc, words) {
+        Ok(read) => perform(alloc, read, input, out, files),
+        Err(WordsFault::Usage) => Status::Usage,
+        Err(WordsFault::NoMemory) => Status::NoMemory,
     }
 }
 
-fn is_drill(words: &[String]) -> bool
-    ensures { result ≡ is_drill (map string_bytes words.now) }
+/// Does a command.
+fn perform<I: Source, O: Sink, F: Files>(
+    alloc: Global,
+    words: Words<'_>,
+    input: &mut I,
+    out: &mut O,
+    files: &mut F,
+) -> Status
+    requires in_place { F.tells → (name : Items ℕ) → F.is_out files.old name ≡ false }
+    ensures does { Does (Some (named words.entry)) F.tells (contents F.place F.D.seen files.old) (F.text_of files.old)
+        (shown (I.left input.old) (O.taken out.old) (I.faults input.old) (O.faults out.old) (F.faults files.old) (F.disk_faults files.old))
+        (shown (I.left input.new) (O.taken out.new) (I.faults input.new) (O.faults out.new) (F.faults files.new) (F.disk_faults files.new)) result }
+    ensures usage { result ≡ Usage → ⊥ }
+    ensures unused { ByCommand (Some (named words.entry)) (files.new ≡ files.old)
+        (λ _. (input.new ≡ input.old) × (F.tells → SameFiles F.place F.is_out F.handed F.text_of files.old files.new))
+        (λ _. input.new ≡ input.old)
+        (λ _. (files.new ≡ files.old) × (input.new ≡ input.old)) ((files.new ≡ files.old) × (input.new ≡ input.old)) }
+    ensures kept { F.tells → KeepsFiles F.place F.is_out F.D.seen files.old files.new }
+    ensures leads { F.leads files.old files.new }
 {
-    if let [word] = words {
-        return word.as_bytes() == b"drill".as_slice();
+    match words {
+        Words::Drill => drill(alloc, input, out),
+        Words::Check { conf } => check(alloc, conf, files, out),
+        Words::Inspect { dir } => inspect(alloc, dir, files, out),
+        Words::Map { texts } => map_subject(alloc, texts, out),
     }
-    false
-}
-
-/// The folder behind the word `inspect`.
-fn folder(words: &[String]) -> Option<&[u8]>
-    ensures { option_map (λ dir. dir.now) result ≡ folder (map string_bytes words.now) }
-{
-    if let [word, dir] = words {
-        if word.as_bytes() == b"inspect".as_slice() {
-            return Some(dir.as_bytes());
-        }
-    }
-    None
-}
-
-/// The three words behind the word `map`.
-fn map_words(words: &[String]) -> Option<MapWords<'_>>
-    ensures { option_map texts_of result ≡ map_texts (map string_bytes words.now) }
-{
-    if let [word, src, dest, subject] = words {
-        if word.as_bytes() == b"map".as_slice() {
-            return Some(MapWords {
-                src: src.as_bytes(),
-                dest: dest.as_bytes(),
-                subject: subject.as_bytes(),
-            });
-        }
-    }
-    None
 }
 
 fn drill<I: Source, O: Sink>(alloc: Global, input: &mut I, out: &mut O) -> Status

@@ -12,8 +12,11 @@ pub mod laws;
 mod line;
 mod operation;
 mod stream;
+mod write;
+mod write_json;
 
 pub use fault::{FeedFault, FrameText, Refused};
 pub use frame::{ClientFrame, ServerInfo, Side};
 pub use line::LineEnd;
 pub use stream::{First, Said, sized};
+pub use write::write_frame;

@@ -100,11 +100,7 @@ fn append_message(buf: &mut Vec<u8>, sid: &[u8], parcel: &Parcel) -> Result<(), 
     append_number(buf, parcel.payload.len() as u64)
 }
 
-fn append_message_headers(
-    buf: &mut Vec<u8>,
-    sid: &[u8],
-    parcel: &Parcel,
-) -> Result<(), NoMemory>
+fn append_message_headers(buf: &mut Vec<u8>, sid: &[u8], parcel: &Parcel) -> Result<(), NoMemory>
     ensures ok { OnOk result (buf.new.items ≡ buf.old.items ++ line_of (ClientFrame.HMsg sid.now parcel.now)) }
     ensures err { OnErr result (Extends buf.old.items buf.new.items) }
 {

@@ -1,13 +1,12 @@
 -- Where the first line of a stream ends.
-use Rattle.std.proofs.Common.{◌≡◌, ℕ, zero, suc, ◌+◌, ◌-◌, ◌<◌, ◌≤◌, ◌==◌, List, [], ◌∷◌, ◌++◌, length, get_or, take, drop, Bool, true, false, ◌&&◌, not, cond, nat_lt, Option, None, Some, inl, inr, refl, sym, ap, ◌∙◌, subst, arith, length-append}
+use Rattle.std.proofs.Common.{◌≡◌, ℕ, zero, suc, ◌+◌, ◌-◌, ◌<◌, ◌≤◌, ◌==◌, List, [], ◌∷◌, ◌++◌, length, get_or, take, Bool, true, false, ◌&&◌, not, cond, nat_lt, Option, None, Some, inl, inr, refl, sym, ap, ◌∙◌, arith, length-append}
 use Rattle.std.specs.Prelude.{◌⊎◌}
-use Rattle.std.specs.List.{list_all, position_from}
+use Rattle.std.specs.List.{position_from}
 use Rattle.std.proofs.lemmas.Bool.{cond-true, cond-false, and_parts, and_from, ltb-true, ltb-false, lt-ltb, le-ltb, eq-eqb, not-true}
 use Rattle.std.proofs.Math.Seq.{get_or-append_seam}
 use Rattle.std.proofs.lemmas.List.{get_or_append_left}
 use Rattle.std.proofs.lemmas.Option.{none-some, same_Some}
 use Rattle.nats_frames.specs.declared.fault.FrameText.TheVariants.{ParserError, ControlLine}
-use Rattle.nats_frames.specs.declared.line.LineEnd.{LineEnd}
 use Rattle.nats_frames.specs.declared.line.LineEnd.TheVariants.{Missing, At, Bad}
 use Rattle.nats_frames.specs.Lines.{is_feed, has_no_feed, ending, ending_at, line_end, IsEndWithin}
 

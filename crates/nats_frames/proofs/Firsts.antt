@@ -1,5 +1,5 @@
 -- What a stream begins with is a good frame, and is read again from its text.
-use Rattle.std.proofs.Common.{◌≡◌, ℕ, zero, suc, ◌+◌, ◌-◌, ◌<◌, ◌≤◌, ◌==◌, List, [], ◌∷◌, ◌++◌, length, get_or, take, drop, Bool, true, false, ◌&&◌, cond, nat_lt, Option, None, Some, refl, sym, ap, ◌∙◌, subst, arith}
+use Rattle.std.proofs.Common.{◌≡◌, ℕ, ◌+◌, ◌-◌, ◌==◌, List, length, get_or, take, drop, Bool, true, false, ◌&&◌, cond, nat_lt, Option, None, Some, refl, ap, subst, arith}
 use Rattle.std.specs.Prelude.{Result, Ok, Err}
 use Rattle.std.specs.List.{position_from}
 use Rattle.std.specs.Str.{bytes_eq}
@@ -18,11 +18,11 @@ use Rattle.nats_frames.specs.declared.stream.Said.{Said}
 use Rattle.nats_frames.specs.declared.stream.Said.TheVariants.{Whole, Carries, Unfit}
 use Rattle.nats_frames.specs.Frames.{most_line, framed, said, first}
 use Rattle.nats_frames.specs.Laws.{ReadsItsText}
-use Rattle.nats_frames.specs.Lines.{is_feed, has_no_feed, ending, ending_at, line_end}
+use Rattle.nats_frames.specs.Lines.{is_feed, has_no_feed, ending_at, line_end}
 use Rattle.nats_frames.specs.Stream.{with_block, opened, carried, decided, first_of}
 use Rattle.nats_frames.proofs.Ends.{before}
 use Rattle.nats_frames.proofs.Readable.{GoodEnvelope, GoodBlock, GoodSaid, Good, said_good, choose}
-use Rattle.nats_frames.proofs.Written.{ReadsAgain, good_again}
+use Rattle.nats_frames.proofs.Written.{good_again}
 
 abbrev GoodFirst : Side → First ClientFrame → Type 0
 GoodFirst side (Frame frame len) = Good side frame

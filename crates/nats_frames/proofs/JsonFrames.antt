@@ -1,19 +1,17 @@
 -- CONNECT and INFO that are written are read again.
-use Rattle.std.proofs.Common.{◌≡◌, ℕ, ◌+◌, ◌<◌, ◌≤◌, ◌^◌, List, [], ◌∷◌, ◌++◌, Bool, true, false, cond, nat_lt, Option, None, Some, refl, sym, ap, ◌∙◌, arith, IsUtf8}
+use Rattle.std.proofs.Common.{◌≡◌, ◌<◌, ◌≤◌, ◌^◌, Bool, true, cond, nat_lt, Option, None, Some, refl, ap, ◌∙◌, arith}
 use Rattle.std.specs.Prelude.{codes, option_and_then, option_map, is_some}
-use Rattle.std.specs.List.{list_all}
-use Rattle.std.specs.Str.{is_utf8, IsAscii}
-use Rattle.std.proofs.lemmas.Bool.{cond-true, and_parts, ltb-true, lt-ltb}
+use Rattle.std.specs.Str.{is_utf8}
+use Rattle.std.proofs.lemmas.Bool.{cond-true, lt-ltb}
 use Rattle.json.proofs.Printed.Utf8.{IsUtf8-are_ascii}
 use Rattle.std.proofs.lemmas.Str.{IsUtf8-from_is_utf8, is_utf8-from_IsUtf8}
-use Rattle.serde_json.specs.Data.{Data, boolean, string, object, Members, depth}
+use Rattle.serde_json.specs.Data.{Data, object, Members, depth}
 use Rattle.serde_json.specs.Find.{as_object}
 use Rattle.serde_json.specs.Read.{read, of_json, max_depth}
 use Rattle.serde_json.specs.Written.{outline, compact_text}
 use Rattle.serde_json.proofs.Numbers.{number_of-decimal}
-use Rattle.nats_text.specs.Text.{is_name, is_name_byte}
+use Rattle.nats_text.specs.Text.{is_name}
 use Rattle.nats_frames.specs.declared.frame.ServerInfo.{ServerInfo}
-use Rattle.nats_frames.specs.declared.frame.ClientFrame.{ClientFrame}
 use Rattle.nats_frames.specs.declared.frame.ClientFrame.TheVariants.{Connect, Info}
 use Rattle.nats_frames.specs.Json.{object_of, connect_of, server_of, info_of, connect_data, info_data}
 use Rattle.nats_frames.proofs.Jsons.{Plain, reads_again, text_utf8}

@@ -1,10 +1,10 @@
 -- The JSON of CONNECT and INFO that is written reads as the same data, and stands within a line.
-use Rattle.std.proofs.Common.{◌≡◌, ℕ, zero, suc, max, ◌+◌, ◌/◌, ◌%◌, ◌^◌, ◌<◌, ◌≤◌, List, [], ◌∷◌, ◌++◌, length, Bool, true, false, ◌&&◌, ◌||◌, not, ◌==◌, cond, nat_lt, Option, None, Some, refl, sym, ap, ap₂, ◌∙◌, arith, IsUtf8, append-nil, append_assoc}
-use Rattle.std.specs.Prelude.{decimal, ⊤, option_and_then, flat_map}
+use Rattle.std.proofs.Common.{◌≡◌, ℕ, zero, suc, max, ◌+◌, ◌/◌, ◌%◌, ◌^◌, ◌<◌, ◌≤◌, List, [], ◌∷◌, ◌++◌, length, Bool, true, false, ◌||◌, not, ◌==◌, cond, nat_lt, Some, refl, sym, ap, ap₂, ◌∙◌, arith, IsUtf8, append-nil, append_assoc}
+use Rattle.std.specs.Prelude.{decimal, ⊤, option_and_then}
 use Rattle.std.specs.Char.{digit_char}
 use Rattle.std.specs.List.{list_all}
 use Rattle.std.specs.Str.{IsAscii}
-use Rattle.std.proofs.lemmas.Bool.{cond-false, ltb-false, ltb-true, false≢true, ne_eqb, and_parts, and_from}
+use Rattle.std.proofs.lemmas.Bool.{ltb-false, false≢true, ne_eqb, and_parts, and_from}
 use Rattle.std.proofs.lemmas.Fmt.{IsAscii-decimal}
 use Rattle.std.proofs.lemmas.Str.{IsUtf8-append, IsUtf8-from_ascii}
 use Rattle.json.specs.Lex.{tokens}
@@ -16,14 +16,14 @@ use Rattle.json.proofs.Printed.Decimals.{IsNumber-decimal}
 use Rattle.json.proofs.Printed.Tokens.{tokens-print}
 use Rattle.json.proofs.Printed.Trees.{ArePrintable-json_tokens, value-json_tokens}
 use Rattle.json.proofs.Printed.Utf8.{IsUtf8-quoted, IsUtf8-boolean}
-use Rattle.serde_json.specs.Data.{Num, unsigned, negative, float, Data, null, boolean, number, string, array, object, Items, no_items, item, Members, no_members, member, depth, members_depth}
+use Rattle.serde_json.specs.Data.{Num, unsigned, negative, float, Data, null, boolean, number, string, array, object, Members, no_members, member, depth, members_depth}
 use Rattle.serde_json.specs.Read.{read, of_json, max_depth}
 use Rattle.serde_json.specs.Written.{outline, members_outline, compact_text, members_text, comma_if}
 use Rattle.serde_json.proofs.Texts.{print-outline}
 use Rattle.nats_text.specs.Headers.{is_blank, trim_end}
 use Rattle.nats_frames.specs.Lines.{is_feed, has_no_feed}
 use Rattle.nats_frames.proofs.Decimals.{decimal_field}
-use Rattle.nats_frames.proofs.Parts.{no_feed_append, no_feed_field, is_field_byte, is_field}
+use Rattle.nats_frames.proofs.Parts.{no_feed_append, no_feed_field, is_field_byte}
 use Rattle.nats_frames.proofs.Trims.{trim_end_filled}
 
 -- a whole number of 64 bits

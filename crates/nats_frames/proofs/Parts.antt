@@ -1,9 +1,9 @@
 -- The parts of a line between blanks, and its fields.
 use Rattle.std.proofs.Common.{◌≡◌, ℕ, zero, suc, ◌+◌, ◌<◌, List, [], ◌∷◌, ◌++◌, length, take, drop, Bool, true, false, ◌&&◌, not, cond, nat_lt, Option, None, Some, refl, sym, ap, ◌∙◌, subst, arith, add-one, append-nil, append_assoc}
 use Rattle.std.specs.Prelude.{MatchOption}
-use Rattle.std.specs.List.{list_all, position_from, flat_map}
+use Rattle.std.specs.List.{list_all, position_from}
 use Rattle.std.proofs.lemmas.Bool.{false≢true, cond-true, cond-false, and_parts, and_from, not-true, lt-ltb}
-use Rattle.nats_text.specs.Headers.{is_blank, trim_start}
+use Rattle.nats_text.specs.Headers.{is_blank}
 use Rattle.nats_text.specs.Pieces.{onto_first}
 use Rattle.nats_frames.specs.Lines.{is_feed, has_no_feed}
 use Rattle.nats_frames.specs.Fields.{parts, onto_filled, filled, fields, from_blank}

@@ -1,18 +1,17 @@
 -- What a reading gives: frames whose fields are fields, whose subjects are subjects, and so on.
-use Rattle.std.proofs.Common.{◌≡◌, ℕ, zero, suc, ◌+◌, ◌-◌, ◌<◌, ◌≤◌, ◌^◌, ◌==◌, List, [], ◌∷◌, ◌++◌, length, get_or, take, drop, Bool, true, false, ◌&&◌, not, cond, nat_lt, Option, None, Some, refl, sym, ap, ◌∙◌, subst, arith}
-use Rattle.std.specs.Prelude.{Result, Ok, Err, codes, option_and_then, option_map}
+use Rattle.std.proofs.Common.{◌≡◌, ℕ, ◌-◌, ◌<◌, ◌^◌, ◌==◌, List, [], ◌∷◌, ◌++◌, length, get_or, take, drop, Bool, true, false, ◌&&◌, not, cond, nat_lt, Option, None, Some, refl, sym, ap, ◌∙◌, subst}
+use Rattle.std.specs.Prelude.{codes, option_and_then, option_map}
 use Rattle.std.specs.List.{list_all}
 use Rattle.std.specs.Option.{option_map_or}
 use Rattle.std.specs.Str.{is_utf8}
-use Rattle.std.proofs.lemmas.Bool.{and_parts, and_from, ltb-true}
+use Rattle.std.proofs.lemmas.Bool.{and_parts, ltb-true}
 use Rattle.std.proofs.lemmas.List.Folds.{list_all-append}
 use Rattle.std.proofs.lemmas.List.{take-append-drop}
 use Rattle.serde_json.specs.Data.{Data}
 use Rattle.serde_json.specs.Find.{get, as_number, as_str, as_u64}
-use Rattle.nats_text.specs.Headers.{HeaderBlock, no_headers, is_header_block, is_blank, trim_start, trim_end, trimmed}
+use Rattle.nats_text.specs.Headers.{no_headers, is_header_block, is_blank, trim_start, trim_end}
 use Rattle.nats_text.specs.Numbers.{is_digit, value_after, number_after, number_of}
-use Rattle.nats_text.specs.Text.{is_name, is_subject, is_pattern}
-use Rattle.nats_frames.specs.declared.fault.FrameText.{FrameText}
+use Rattle.nats_text.specs.Text.{is_name, is_pattern}
 use Rattle.nats_frames.specs.declared.fault.FrameText.TheVariants.{ParserError, InvalidSubject, PayloadViolation}
 use Rattle.nats_frames.specs.declared.frame.ServerInfo.{ServerInfo}
 use Rattle.nats_frames.specs.declared.frame.Side.{Side}
@@ -26,7 +25,7 @@ use Rattle.nats_frames.specs.declared.operation.Operation.TheVariants.{Connect, 
 use Rattle.nats_frames.specs.declared.stream.Said.{Said}
 use Rattle.nats_frames.specs.declared.stream.Said.TheVariants.{Whole, Carries, Unfit}
 use Rattle.nats_frames.specs.Fields.{fields, from_blank, argument, size_of, is_short, quoted}
-use Rattle.nats_frames.specs.Frames.{most_payload, is_word, shared_operation, client_operation, server_operation, operation_of, whole_or, alone, subscription, subscribe, ended_after, unsubscribe, fault, is_address, publication, publish, publish_headers, delivery, message, message_headers, said_of, said_if, said_by, said}
+use Rattle.nats_frames.specs.Frames.{most_payload, is_word, shared_operation, operation_of, whole_or, alone, subscription, subscribe, ended_after, unsubscribe, fault, is_address, publication, publish, publish_headers, delivery, message, message_headers, said_of, said_if, said_by, said}
 use Rattle.nats_frames.specs.Json.{object_of, switch_at, flag_at, text_at, name_at, whole_at, small_at, connect_of, numbers_of, server_of, info_of}
 use Rattle.nats_frames.specs.Lines.{has_no_feed, is_feed}
 use Rattle.nats_frames.specs.Stream.{sized}

@@ -1,11 +1,10 @@
 -- What a stream begins with stays when more bytes come.
-use Rattle.std.proofs.Common.{◌≡◌, ℕ, zero, suc, ◌+◌, ◌-◌, ◌<◌, ◌≤◌, ◌==◌, List, [], ◌∷◌, ◌++◌, length, take, drop, Bool, true, false, cond, nat_lt, inl, inr, refl, sym, ap, ◌∙◌, subst, arith, length-append, length-drop, append-nil, append_assoc}
-use Rattle.std.specs.Prelude.{◌⊎◌, Result, Ok, Err}
+use Rattle.std.proofs.Common.{◌≡◌, ℕ, ◌+◌, ◌<◌, ◌≤◌, List, [], ◌∷◌, ◌++◌, length, take, drop, Bool, true, false, cond, nat_lt, inl, inr, refl, sym, ap, ◌∙◌, subst, arith, length-append, length-drop, append-nil, append_assoc}
+use Rattle.std.specs.Prelude.{Result, Ok, Err}
 use Rattle.std.specs.Str.{bytes_eq}
 use Rattle.std.proofs.lemmas.Bool.{cond-true, cond-false, ltb-true, ltb-false, lt-ltb, le-ltb}
 use Rattle.std.proofs.lemmas.List.{take-append-le, drop-append-le}
 use Rattle.nats_text.specs.Headers.{HeaderBlock, crlf, read_block}
-use Rattle.nats_frames.specs.declared.fault.FrameText.{FrameText}
 use Rattle.nats_frames.specs.declared.fault.FrameText.TheVariants.{ParserError}
 use Rattle.nats_frames.specs.declared.stream.First.{First}
 use Rattle.nats_frames.specs.declared.stream.First.TheVariants.{Frame, More, Refuse}

@@ -1,9 +1,9 @@
 -- Texts without the blanks at their ends.
 use Rattle.std.proofs.Common.{◌≡◌, ℕ, ◌+◌, ◌-◌, ◌<◌, ◌≤◌, List, [], ◌∷◌, ◌++◌, length, get_or, take, Bool, true, false, cond, refl, sym, ap, ◌∙◌, arith}
 use Rattle.std.specs.List.{list_all}
-use Rattle.std.proofs.lemmas.Bool.{cond-true, cond-false, and_parts, and_from}
-use Rattle.std.proofs.lemmas.List.{take_more, take_all, append-nil}
-use Rattle.nats_text.specs.Headers.{is_blank, before_trimmed, trim_start, trim_end, trimmed}
+use Rattle.std.proofs.lemmas.Bool.{cond-true, cond-false, and_from}
+use Rattle.std.proofs.lemmas.List.{take_more, take_all}
+use Rattle.nats_text.specs.Headers.{is_blank, before_trimmed, trim_start, trim_end}
 
 trim_end_blank : (xs : List ℕ) (b : ℕ) → is_blank b ≡ true → trim_end (xs ++ b ∷ []) ≡ trim_end xs
 trim_end_blank [] b h = cond-true (is_blank b) [] (b ∷ []) h

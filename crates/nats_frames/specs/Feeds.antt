@@ -1,5 +1,5 @@
 -- A stream that comes in pieces: what a feed holds, what it gives next, and what that leaves.
-use Rattle.std.specs.Prelude.{◌≡◌, ℕ, ◌+◌, ◌-◌, ◌^◌, ◌<◌, ◌≤◌, List, [], ◌∷◌, ◌++◌, length, take, drop, min, Bool, true, false, IsTrue, Option, None, Some, Result, Ok, Err, is_none, if◌then◌else◌}
+use Rattle.std.specs.Prelude.{◌≡◌, ℕ, ◌+◌, ◌-◌, ◌^◌, ◌<◌, ◌≤◌, List, [], ◌++◌, length, take, drop, min, Bool, true, false, IsTrue, Option, None, Some, Result, Ok, Err, is_none, if◌then◌else◌}
 use Rattle.nats_frames.specs.declared.fault.FrameText.{FrameText}
 use Rattle.nats_frames.specs.declared.fault.FeedFault.{FeedFault}
 use Rattle.nats_frames.specs.declared.fault.FeedFault.TheVariants.{Refused as IsRefused, NoMemory}
@@ -73,10 +73,8 @@ is_more (Refuse text) = false
 abbrev pub Waits : {F : Type 0} → (List ℕ → First F) → List ℕ → ℕ → Type 0
 Waits first rest wanted = (behind : List ℕ) → length (rest ++ behind) < wanted → is_more (first (rest ++ behind)) ≡ true
 
--- the rest begins at a place of the buffer, no line ends within what was looked at, and more bytes
--- are wanted until there are enough
-pub record Knows {F : Type 0} (first : List ℕ → First F) (buffer : List ℕ) (start looked wanted : ℕ) : Type 0 where
-  pub within : start ≤ length buffer
-  pub looked_within : looked ≤ length (drop start buffer)
-  pub none : IsTrue (has_no_feed (take looked (drop start buffer)))
-  pub waits : Waits first (drop start buffer) wanted
+-- no line ends within what was looked at, and more bytes are wanted until there are enough
+pub record Knows {F : Type 0} (first : List ℕ → First F) (rest : List ℕ) (looked wanted : ℕ) : Type 0 where
+  pub within : looked ≤ length rest
+  pub none : IsTrue (has_no_feed (take looked rest))
+  pub waits : Waits first rest wanted

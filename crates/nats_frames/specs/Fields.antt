@@ -1,6 +1,5 @@
 -- The fields of a line.
-use Rattle.std.specs.Prelude.{ℕ, ◌+◌, ◌-◌, ◌==◌, List, [], ◌∷◌, length, take, drop, slice_index, Bool, ◌&&◌, not, nat_lt, nat_le, if◌then◌else◌, Option, None, Some}
-use Rattle.std.specs.List.{list_all}
+use Rattle.std.specs.Prelude.{ℕ, ◌-◌, ◌==◌, List, [], ◌∷◌, length, take, drop, slice_index, Bool, ◌&&◌, nat_lt, nat_le, if◌then◌else◌, Option, None, Some}
 use Rattle.nats_text.specs.Headers.{is_blank, trim_start, trimmed}
 use Rattle.nats_text.specs.Numbers.{number_of}
 use Rattle.nats_text.specs.Pieces.{onto_first}

@@ -1,10 +1,9 @@
 -- The frames of client connections (the NATS client protocol).
-use Rattle.std.specs.Prelude.{ℕ, ◌+◌, ◌-◌, ◌==◌, List, [], ◌∷◌, length, Bool, true, false, ◌&&◌, nat_lt, if◌then◌else◌, Option, None, Some, codes, option_and_then}
+use Rattle.std.specs.Prelude.{ℕ, List, [], ◌∷◌, Bool, true, false, ◌&&◌, nat_lt, if◌then◌else◌, Option, None, Some, codes, option_and_then}
 use Rattle.std.specs.Option.{option_map_or}
 use Rattle.std.specs.Str.{str_eq_ignore_ascii_case}
 use Rattle.nats_text.specs.Headers.{HeaderBlock}
 use Rattle.nats_text.specs.Text.{is_subject, is_pattern}
-use Rattle.nats_text.specs.declared.message.Parcel.{Parcel}
 use Rattle.nats_frames.specs.declared.fault.FrameText.{FrameText}
 use Rattle.nats_frames.specs.declared.fault.FrameText.TheVariants.{UnknownOperation, ParserError, InvalidSubject}
 use Rattle.nats_frames.specs.declared.stream.First.{First}
@@ -131,6 +130,11 @@ publish_headers (subject ∷ block ∷ []) = Unfit ParserError
 publish_headers (subject ∷ block ∷ size ∷ []) = sized (publication true subject None) most_payload (size_of block) (size_of size)
 publish_headers (subject ∷ reply ∷ block ∷ size ∷ []) = sized (publication true subject (Some reply)) most_payload (size_of block) (size_of size)
 publish_headers (subject ∷ reply ∷ block ∷ size ∷ other ∷ others) = Unfit ParserError
+
+-- a message for a subscription behind its address, where that could be read
+abbrev pub delivered : Bool → List ℕ → Option (List ℕ × Option (List ℕ)) → Option ℕ → Option ℕ → Said ClientFrame Envelope
+delivered headers sid None block size = Unfit InvalidSubject
+delivered headers sid (Some address) block size = sized (Delivery headers sid address.0 address.1) most_payload block size
 
 -- a message for a subscription, from a server, who gets no address wrong
 abbrev pub delivery : Bool → List ℕ → List ℕ → Option (List ℕ) → Option ℕ → Option ℕ → Said ClientFrame Envelope

@@ -10,9 +10,13 @@ use Rattle.nats_frames.specs.declared.frame.ServerInfo.{ServerInfo}
 use Rattle.nats_frames.specs.declared.frame.ClientFrame.{ClientFrame}
 use Rattle.nats_frames.specs.declared.frame.ClientFrame.TheVariants.{Connect, Info}
 
+-- data that is an object
+abbrev pub if_object : Data → Option Data
+if_object d = if is_some (as_object d) then Some d else None
+
 -- the JSON of a text in UTF-8, where it is an object
 abbrev pub object_of : List ℕ → Option Data
-object_of text = if is_utf8 text then option_and_then (λ d. if is_some (as_object d) then Some d else None) (read text) else None
+object_of text = if is_utf8 text then option_and_then if_object (read text) else None
 
 -- a switch, which is as given where it is absent, and has to be true or false where it stands
 abbrev pub switch_at : List ℕ → Bool → Data → Option Bool

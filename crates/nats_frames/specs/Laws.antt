@@ -1,11 +1,12 @@
 -- What holds of the frames of a stream, whatever the code does.
-use Rattle.std.specs.Prelude.{◌≡◌, ◌⊎◌, ℕ, zero, suc, ◌+◌, ◌≤◌, ◌<◌, List, [], ◌∷◌, ◌++◌, length, drop}
+use Rattle.std.specs.Prelude.{◌≡◌, ℕ, zero, suc, ◌≤◌, ◌<◌, List, [], ◌∷◌, ◌++◌, length, drop}
 use Rattle.nats_frames.specs.declared.fault.FrameText.{FrameText}
 use Rattle.nats_frames.specs.declared.stream.First.{First}
 use Rattle.nats_frames.specs.declared.stream.First.TheVariants.{Frame, More, Refuse}
 use Rattle.nats_frames.specs.declared.frame.Side.{Side}
 use Rattle.nats_frames.specs.declared.frame.ClientFrame.{ClientFrame}
 use Rattle.nats_frames.specs.Frames.{first}
+use Rattle.nats_frames.specs.Kinds.{IsOf}
 use Rattle.nats_frames.specs.Texts.{text, IsWithinBounds}
 
 -- ---- the frames of bytes
@@ -75,3 +76,8 @@ TakenAreFront {F} first = (bytes : List ℕ) (taken : List F) (rest : List ℕ) 
 -- whatever stands behind it
 abbrev pub ReadsItsText : Type 0
 ReadsItsText = (side : Side) (bytes : List ℕ) (frame : ClientFrame) (len : ℕ) → first side bytes ≡ Frame frame len → IsWithinBounds frame → (behind : List ℕ) → first side (text frame ++ behind) ≡ Frame frame (length (text frame))
+
+-- each frame that a side may send, and whose text is within the bounds, is read from its text, whatever
+-- stands behind it
+abbrev pub ReadsEachText : Type 0
+ReadsEachText = (side : Side) (frame : ClientFrame) → IsOf side frame → IsWithinBounds frame → (behind : List ℕ) → first side (text frame ++ behind) ≡ Frame frame (length (text frame))

@@ -2,7 +2,9 @@ pub mod Feeds
 pub mod Fields
 pub mod Frames
 pub mod Json
+pub mod Kinds
 pub mod Laws
 pub mod Lines
+pub mod Runs
 pub mod Stream
 pub mod Texts

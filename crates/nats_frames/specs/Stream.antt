@@ -1,5 +1,5 @@
 -- What a stream of bytes begins with: one rule for the frames of clients and for those of leaf links.
-use Rattle.std.specs.Prelude.{ℕ, ◌+◌, ◌≤◌, List, ◌∷◌, length, take, drop, Bool, true, false, nat_lt, if◌then◌else◌, Option, None, Some, Result, Ok, Err}
+use Rattle.std.specs.Prelude.{ℕ, ◌+◌, ◌≤◌, List, length, take, drop, nat_lt, if◌then◌else◌, Option, None, Some, Result, Ok, Err}
 use Rattle.std.specs.Str.{bytes_eq}
 use Rattle.nats_text.specs.Headers.{HeaderBlock, crlf, read_block}
 use Rattle.nats_frames.specs.declared.fault.FrameText.TheVariants.{ParserError, PayloadViolation}
@@ -38,6 +38,12 @@ carried frame line block size behind =
 -- headers and a payload
 abbrev pub message_of : HeaderBlock → List ℕ → HeaderBlock × List ℕ
 message_of headers payload = (headers, payload)
+
+-- what a message makes of its envelope
+abbrev pub in_envelope : {F : Type 0} → (HeaderBlock → List ℕ → F) → First (HeaderBlock × List ℕ) → First F
+in_envelope frame (Frame message len) = Frame (frame message.0 message.1) len
+in_envelope frame (More wanted) = More wanted
+in_envelope frame (Refuse text) = Refuse text
 
 -- a line's header block is within its message, and the message within its bound
 abbrev pub IsFit : {F E : Type 0} → ℕ → Said F E → Type 0

@@ -1,11 +1,9 @@
 -- How frames are written (the NATS client protocol).
-use Rattle.std.specs.Prelude.{◌≡◌, ℕ, ◌+◌, ◌≤◌, List, [], ◌∷◌, ◌++◌, length, codes, decimal, Option, None, Some}
+use Rattle.std.specs.Prelude.{ℕ, ◌+◌, ◌≤◌, List, [], ◌∷◌, ◌++◌, length, codes, decimal, Option, None, Some}
 use Rattle.std.specs.List.{flat_map}
 use Rattle.std.specs.Str.{IsUtf8}
 use Rattle.serde_json.specs.Written.{compact_text}
 use Rattle.nats_text.specs.Headers.{HeaderBlock, crlf, written}
-use Rattle.nats_text.specs.declared.message.Parcel.{Parcel}
-use Rattle.nats_frames.specs.declared.frame.ServerInfo.{ServerInfo}
 use Rattle.nats_frames.specs.declared.frame.ClientFrame.{ClientFrame}
 use Rattle.nats_frames.specs.declared.frame.ClientFrame.TheVariants.{Connect, Info, Pub, HPub, Sub, Unsub, Msg, HMsg, Ping, Pong, Okay, Fault, BadSubject}
 use Rattle.nats_frames.specs.Frames.{most_line, most_payload}

@@ -1,7 +1,8 @@
 //! What holds of frames, whatever the code does: functions that do nothing, whose contracts are laws.
 ghost use Rattle.nats_frames.specs.declared.frame.Side.{Side as Sender};
 ghost use Rattle.nats_frames.specs.Frames.{first};
-ghost use Rattle.nats_frames.specs.Laws.{FramesAreWithin, FramesStay, RefusalsStay, WantsMore, WishesStay, TakesStay, TakesNext, TakenAreFront, ReadsItsText};
+ghost use Rattle.nats_frames.specs.Runs.{FeedsStand, FeedsGiveFront};
+ghost use Rattle.nats_frames.specs.Laws.{FramesAreWithin, FramesStay, RefusalsStay, WantsMore, WishesStay, TakesStay, TakesNext, TakenAreFront, ReadsEachText, ReadsItsText};
 
 use nats_text::laws::header_blocks;
 
@@ -23,9 +24,19 @@ pub fn taken_frames()
     ensures front { (side : Sender) → TakenAreFront (first side) }
 {}
 
-/// A frame is read from its written text, whatever stands behind it.
+/// Whatever is done with a feed, the frames that it gave are the front of the frames of the stream so far,
+/// and what it holds is the rest. Once it is refused they are all of them, and its place is where the
+/// rest begins.
+pub fn streams()
+    ensures stand { (side : Sender) → FeedsStand (first side) }
+    ensures front { (side : Sender) → FeedsGiveFront (first side) }
+{}
+
+/// A frame is read from its written text, whatever stands behind it: each one that a side may send, and so
+/// each one that was read before.
 pub fn written_frames()
-    ensures { ReadsItsText }
+    ensures each { ReadsEachText }
+    ensures again { ReadsItsText }
 {
     header_blocks();
 }

@@ -1,5 +1,5 @@
 ghost use Rattle.std.specs.Prelude.{◌≡◌};
-ghost use Rattle.nats_frames.specs.Stream.{sized};
+ghost use Rattle.nats_frames.specs.Stream.{sized, IsFit};
 
 use crate::FrameText;
 
@@ -37,7 +37,8 @@ pub fn sized<F: Drop, E: Drop>(
     block: Option<usize>,
     size: Option<usize>,
 ) -> Said<F, E>
-    ensures { result ≡ sized envelope most block size }
+    ensures value { result ≡ sized envelope most block size }
+    ensures fit { IsFit most result }
 {
     let (Some(block), Some(size)) = (block, size) else {
         return Said::Unfit(FrameText::ParserError);

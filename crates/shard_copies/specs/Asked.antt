@@ -1,12 +1,14 @@
 -- The askers of a shard: which asker a look-up finds, which view has the same ones, and what copies ask.
-use Rattle.std.specs.Prelude.{◌≡◌, ℕ, ◌==◌, Bool, ◌&&◌, List, [], ◌∷◌, ◌++◌, map, filter, find, if◌then◌else◌, Option, None, Some, IsSome, All}
+use Rattle.std.specs.Prelude.{◌≡◌, ℕ, ◌==◌, Bool, ◌&&◌, List, [], ◌∷◌, ◌++◌, map, filter, find, if◌then◌else◌, Option, None, Some, IsSome, ⊤}
 use Rattle.std.specs.Str.{bytes_eq}
 use Rattle.std.specs.FinMap.{get}
+use Rattle.nats_text.specs.declared.origin.Origin.{Origin}
 use Rattle.js_wire.specs.declared.packet.AskerId.{AskerId}
 use Rattle.js_wire.specs.declared.packet.Packet.{Packet}
 use Rattle.stream_fold.specs.declared.decision.Decision.{Decision}
 use Rattle.stream_fold.specs.declared.decision.Decision.TheVariants.{Store, Bind as Binds, Rebind, Skip, Ignore, AskAgain, Reply, Heard as Hears, Refused as IsRefused, Stop}
 use Rattle.stream_fold.specs.declared.decision.Reason.TheVariants.{Foreign}
+use Rattle.stream_fold.specs.Facts.{StreamFacts}
 use Rattle.replica_ask.specs.Askers.{AskerState, new_asker, with_phase, asking, bound_phase, took_phase, heard_phase, is_due}
 use Rattle.replica_ask.specs.declared.phase.Phase.{Phase}
 use Rattle.replica_ask.specs.declared.phase.Phase.TheVariants.{Idle, Stopped as IsStopped}
@@ -55,9 +57,18 @@ pub record AskingState : Type 0 where
   pub packets : List Packet
   pub askers : List AskerState
 
--- each of these askers has its place
+-- each of these askers has its place among those
+abbrev pub HavePlaces : List AskerState → List AskerState → Type 0
+HavePlaces all [] = ⊤
+HavePlaces all (one ∷ ones) = IsSome (find (is_of one.id) all) × HavePlaces all ones
+
+-- the askers that ask have their places
 abbrev pub AreKept : AskersState → AskingState → Type 0
-AreKept s a = All (λ one. IsSome (find (is_of one.id) s.all)) a.askers
+AreKept s a = HavePlaces s.all a.askers
+
+-- the copy of an origin by its stream, its index and the facts of its stream
+abbrev pub copy_of : List ℕ → ℕ → StreamFacts → Origin → Copy
+copy_of name number f origin = record { stream = name; index = number; facts = f; want = origin }
 
 -- those of a stream's copies that are meant
 abbrev pub chosen : Chosen → View → ℕ → List Copy → List Copy

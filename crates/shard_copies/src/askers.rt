@@ -1,24 +1,29 @@
-ghost use Rattle.std.specs.Prelude.{◌≡◌, ℕ, List as Items, [], ◌∷◌, map, None, Some, IfOk, OnOk};
+ghost use Rattle.std.specs.Prelude.{◌≡◌, ℕ, List as Items, [], ◌∷◌, map, find, Some, IsSome, IfOk, OnOk};
 ghost use Rattle.std.specs.FinMap.{empty};
 ghost use Rattle.stream_fold.specs.Checking.{config_fault};
-ghost use Rattle.stream_fold.specs.Facts.{facts};
+ghost use Rattle.stream_fold.specs.Facts.{StreamFacts, facts};
 ghost use Rattle.stream_fold.specs.Fits.{Fits};
 ghost use Rattle.stream_fold.specs.Held.{StandsFor};
 ghost use Rattle.stream_fold.specs.Histories.{History};
 ghost use Rattle.mirror_core.specs.Entries.{IfEntry, IsJournalled};
 ghost use Rattle.shard_machine.specs.Views.{View, Copy, copies_of, asker_of, with_asker, with_all_asked, idle_askers, idle_under};
-ghost use Rattle.replica_ask.specs.Askers.{with_phase};
+ghost use Rattle.replica_ask.specs.Askers.{AskerState, with_phase, is_due};
 ghost use Rattle.shard_machine.specs.Answers.{fact_of_copy};
-ghost use Rattle.shard_copies.specs.Asked.{ShowsAskers, ShowsSame, AreKept, Asks, shown, chosen, asked_of, copy_at, decided_at, phase_behind};
+ghost use Rattle.shard_copies.specs.Asked.{ShowsAskers, ShowsSame, AreKept, Asks, shown, chosen, asked_of, copy_at, copy_of, decided_at, id_in, is_of, phase_behind, HavePlaces};
+ghost use Rattle.shard_copies.specs.Places.{is_chosen};
 
+use crate::copies::{ask_start, next_index, node_or, origins, reached};
+use crate::decisions::decided;
+use crate::kept::{idle_each, idle_of, kept, move_on_in, put_all};
+use crate::phases::{consumer_of, stopped_at};
 use crate::{Asking, Chosen};
-use js_wire::Packet;
-use nats_text::{List, Name, NoMemory};
+use js_wire::{AskerId, Packet};
+use nats_text::{List, Name, NoMemory, Origin};
 use replica_ask::{Asker, Phase};
 use shard_machine::CopyFact;
 use std::alloc::Global;
 use std::marker::Model;
-use stream_fold::{Decision, StreamState};
+use stream_fold::{Decision, Reason, StreamState};
 
 /// The askers of a shard's copies. One that has asked nothing may be there or not. They outlive their streams,
 /// so that no attempt is given twice between two openings.
@@ -76,7 +81,10 @@ impl Askers {
     pub fn phase(&self, name: &Name, index: u32) -> Phase
         ensures { result ≡ (shown self.now name.now index).phase }
     {
-        Phase::Idle
+        match kept(&self.all, &self.node, name, index) {
+            Some(asker) => *asker.phase(),
+            None => Phase::Idle,
+        }
     }
 
     /// Those of a stream's copies that are meant ask at this moment, by their index. Their packets come behind
@@ -95,7 +103,85 @@ impl Askers {
         ensures kept { AreKept self.old asking.old → OnOk result (AreKept self.new asking.new) }
         ensures asks { (v : View) (h : History) → ShowsAskers self.old v v.askers → StandsFor state.now h → OnOk result (Asks asking.old asking.new v now (chosen which.now v now (copies_of name.now (facts h)))) }
     {
-        Err(NoMemory)
+        let mut index = 0;
+        for want in origins(&state.config().copies) {
+            if self.is_chosen(name, index, want, which, now) {
+                self.ask_one(alloc, name, state, index, want, now, asking)?;
+            }
+            index = next_index(index)?;
+        }
+        Ok(())
+    }
+
+    /// Whether the copy of an origin is one of those that are meant.
+    fn is_chosen(
+        &self,
+        name: &Name,
+        index: u32,
+        want: &Origin,
+        which: &Chosen,
+        now: u64,
+    ) -> bool
+        ensures { (v : View) (f : StreamFacts) → ShowsAskers self.now v v.askers → result ≡ is_chosen which.now v now (copy_of name.now index f want.now) }
+    {
+        match which {
+            Chosen::All => true,
+            Chosen::Due => self.is_due(name, index, now),
+            Chosen::OfNode(node) => node_or(&self.node, &want.node).bytes() == node.bytes(),
+        }
+    }
+
+    fn is_due(&self, name: &Name, index: u32, now: u64) -> bool
+        ensures { result ≡ is_due now (shown self.now name.now index).phase }
+    {
+        match kept(&self.all, &self.node, name, index) {
+            Some(asker) => asker.due(now),
+            None => true,
+        }
+    }
+
+    /// The copy of an origin asks.
+    fn ask_one(
+        &mut self,
+        alloc: Global,
+        name: &Name,
+        state: &StreamState,
+        index: u32,
+        want: &Origin,
+        now: u64,
+        asking: &mut Asking,
+    ) -> Result<(), NoMemory>
+        ensures shown { ShowsSame self.old self.new }
+        ensures kept { AreKept self.old asking.old → OnOk result (AreKept self.new asking.new) }
+        ensures asks { (v : View) (h : History) → ShowsAskers self.old v v.askers → StandsFor state.now h → OnOk result (Asks asking.old asking.new v now (copy_of name.now index (facts h) want.now ∷ [])) }
+    {
+        let start = ask_start(state, index, want)?;
+        let mut asker = self.asker_for(name, index)?;
+        let packet = asker.ask(alloc, now, node_or(&self.node, &want.node), want, start)?;
+        asking.packets.push(packet)?;
+        asking.askers.push(asker)?;
+        Ok(())
+    }
+
+    /// A copy of the asker of a stream and an index, which has its place then.
+    fn asker_for(&mut self, name: &Name, index: u32) -> Result<Asker, NoMemory>
+        ensures asker { IfOk result (λ asker. asker ≡ shown self.old name.now index) }
+        ensures shown { ShowsSame self.old self.new }
+        ensures places { (ones : Items AskerState) → HavePlaces self.old.all ones → HavePlaces self.new.all ones }
+        ensures kept { OnOk result (IsSome (find (is_of (id_in self.old name.now index)) self.new.all)) }
+    {
+        if let Some(asker) = kept(&self.all, &self.node, name, index) {
+            return Ok(asker.clone()?);
+        }
+        let id = AskerId {
+            node: self.node.clone()?,
+            stream: name.clone()?,
+            index,
+        };
+        let asker = Asker::new(id, self.boot);
+        let copy = asker.clone()?;
+        self.all.push(asker)?;
+        Ok(copy)
     }
 
     /// The copy of this index asks at this moment, as by [`Askers::ask`]. One that isn't there doesn't.
@@ -112,7 +198,10 @@ impl Askers {
         ensures kept { AreKept self.old asking.old → OnOk result (AreKept self.new asking.new) }
         ensures asks { (v : View) (h : History) (c : Copy) → ShowsAskers self.old v v.askers → StandsFor state.now h → copy_at index (copies_of name.now (facts h)) ≡ Some c → OnOk result (Asks asking.old asking.new v now (c ∷ [])) }
     {
-        Err(NoMemory)
+        match origins(&state.config().copies).get(index as usize) {
+            Some(want) => self.ask_one(alloc, name, state, index, want, now, asking),
+            None => Ok(()),
+        }
     }
 
     /// What was asked counts as sent. It gives the packets.
@@ -143,13 +232,17 @@ impl Askers {
         ensures fits { (h : History) → StandsFor state.now h → IfOk result (λ decision. IfEntry (Fits h) decision) }
         ensures journalled { IfOk result (λ decision. IfEntry (IsJournalled state.now.held.limits.name) decision) }
     {
-        Err(NoMemory)
+        match kept(&self.all, &self.node, name, index) {
+            Some(asker) => decided(alloc, state, index, asker, packet, now),
+            None => Ok(Decision::Ignore(Reason::Foreign)),
+        }
     }
 
     /// The copy followed its decision about a packet. One that asks again asked by [`Askers::ask_again`] instead.
     pub fn follow(&mut self, name: &Name, index: u32, decision: &Decision, packet: &Packet, now: u64)
         ensures { (v : View) (c : Copy) → ShowsAskers self.old v v.askers → c.stream ≡ name.now → c.index ≡ index → decision.now ≡ decided_at v now packet.now (Some c) → ShowsAskers self.new v (with_asker c.stream c.index (with_phase (asker_of v c) (phase_behind decision.now packet.now now (asker_of v c).phase)) v.askers) }
     {
+        move_on_in(&mut self.all, &self.node, name, index, decision, packet, now);
     }
 
     /// How far each of a stream's copies has come, in the order of its origins.
@@ -159,9 +252,34 @@ impl Askers {
         name: &Name,
         state: &StreamState,
     ) -> Result<List<CopyFact>, NoMemory>
-        ensures { (v : View) (h : History) → ShowsAskers self.now v v.askers → StandsFor state.now h → IfOk result (λ shown_facts. shown_facts ≡ map (fact_of_copy v) (copies_of name.now (facts h))) }
+        ensures { (v : View) (h : History) → ShowsAskers self.now v v.askers → StandsFor state.now h → IfOk result (λ told. told ≡ map (fact_of_copy v) (copies_of name.now (facts h))) }
     {
-        Err(NoMemory)
+        let mut told = List::new(alloc);
+        let mut index = 0;
+        for want in origins(&state.config().copies) {
+            told.push(self.copy_fact(name, state, index, want)?)?;
+            index = next_index(index)?;
+        }
+        Ok(told)
+    }
+
+    fn copy_fact(
+        &self,
+        name: &Name,
+        state: &StreamState,
+        index: u32,
+        want: &Origin,
+    ) -> Result<CopyFact, NoMemory>
+        ensures { (v : View) (h : History) → ShowsAskers self.now v v.askers → StandsFor state.now h → IfOk result (λ fact. fact ≡ fact_of_copy v (copy_of name.now index (facts h) want.now)) }
+    {
+        let phase = self.phase(name, index);
+        Ok(CopyFact {
+            node: want.node.clone()?,
+            stream: want.stream.clone()?,
+            mark: reached(state, index, want),
+            stopped: stopped_at(phase),
+            consumer: consumer_of(phase),
+        })
     }
 
     /// The askers of a stream's copies forget what they asked.

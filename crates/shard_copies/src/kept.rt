@@ -1,15 +1,17 @@
 //! Lists of askers.
-ghost use Rattle.std.specs.Prelude.{◌≡◌, ◌<◌, map, find, if◌then◌else◌, Some, IfSome, IfNone, None, slice_get, length};
+ghost use Rattle.std.specs.Prelude.{◌≡◌, map, find, if◌then◌else◌};
 ghost use Rattle.std.specs.Str.{bytes_eq};
 ghost use Rattle.std.specs.Option.{option_copied};
 ghost use Rattle.replica_ask.specs.Askers.{with_phase};
 ghost use Rattle.replica_ask.specs.declared.phase.Phase.TheVariants.{Idle};
 ghost use Rattle.shard_copies.specs.Asked.{is_of};
-ghost use Rattle.shard_copies.specs.Places.{put_in, put_all, place_in};
+ghost use Rattle.shard_copies.specs.Places.{put_in, put_all, place_in, changed_in, moved_on};
 
-use js_wire::AskerId;
+use crate::phases::move_on;
+use js_wire::Packet;
 use nats_text::Name;
 use replica_ask::Asker;
+use stream_fold::Decision;
 
 /// Whether an asker has this name.
 fn is_of(asker: &Asker, node: &Name, stream: &Name, index: u32) -> bool
@@ -59,6 +61,24 @@ pub fn put_all(all: &mut [Asker], askers: Vec<Asker>)
 {
     for asker in askers {
         put_in(all, asker);
+    }
+}
+
+/// The copy of this name, where its asker is there, followed its decision about a packet.
+pub fn move_on_in(
+    all: &mut [Asker],
+    node: &Name,
+    stream: &Name,
+    index: u32,
+    decision: &Decision,
+    packet: &Packet,
+    now: u64,
+)
+    ensures { all.new ≡ changed_in (record { node = node.now; stream = stream.now; index = index }) (moved_on decision.now packet.now now) all.old }
+{
+    let place = place_of(all, node, stream, index);
+    if place < all.len() {
+        move_on(&mut all[place], decision, packet, now);
     }
 }
 

@@ -10,9 +10,11 @@ mod asking;
 mod chosen;
 mod consumers;
 mod copies;
+mod decisions;
 mod flow;
 mod kept;
 mod lists;
+mod phases;
 mod pumps;
 
 pub use askers::Askers;

@@ -1,5 +1,5 @@
 -- How askers are changed in a list of askers. No public clause says this.
-use Rattle.std.specs.Prelude.{ℕ, ◌+◌, Bool, true, List, [], ◌∷◌, if◌then◌else◌}
+use Rattle.std.specs.Prelude.{ℕ, suc, Bool, true, List, [], ◌∷◌, if◌then◌else◌}
 use Rattle.js_wire.specs.declared.packet.AskerId.{AskerId}
 use Rattle.replica_ask.specs.Askers.{AskerState}
 use Rattle.replica_ask.specs.Askers.{is_due, with_phase}
@@ -14,7 +14,7 @@ use Rattle.shard_copies.specs.Asked.{is_of, phase_behind}
 -- the place of the asker of this name, or one past the last
 abbrev pub place_in : AskerId → List AskerState → ℕ
 place_in id [] = 0
-place_in id (a ∷ others) = if is_of id a then 0 else place_in id others + 1
+place_in id (a ∷ others) = if is_of id a then 0 else suc (place_in id others)
 
 -- the first asker of this name is changed so, where there is one
 abbrev pub changed_in : AskerId → (AskerState → AskerState) → List AskerState → List AskerState

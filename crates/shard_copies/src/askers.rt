@@ -104,7 +104,7 @@ impl Askers {
         ensures asks { (v : View) (h : History) → ShowsAskers self.old v v.askers → StandsFor state.now h → OnOk result (Asks asking.old asking.new v now (chosen which.now v now (copies_of name.now (facts h)))) }
     {
         let mut index = 0;
-        for want in origins(&state.config().copies) {
+        for want in origins(state) {
             if self.is_chosen(name, index, want, which, now) {
                 self.ask_one(alloc, name, state, index, want, now, asking)?;
             }
@@ -198,7 +198,7 @@ impl Askers {
         ensures kept { AreKept self.old asking.old → OnOk result (AreKept self.new asking.new) }
         ensures asks { (v : View) (h : History) (c : Copy) → ShowsAskers self.old v v.askers → StandsFor state.now h → copy_at index (copies_of name.now (facts h)) ≡ Some c → OnOk result (Asks asking.old asking.new v now (c ∷ [])) }
     {
-        match origins(&state.config().copies).get(index as usize) {
+        match origins(state).get(index as usize) {
             Some(want) => self.ask_one(alloc, name, state, index, want, now, asking),
             None => Ok(()),
         }
@@ -256,7 +256,7 @@ impl Askers {
     {
         let mut told = List::new(alloc);
         let mut index = 0;
-        for want in origins(&state.config().copies) {
+        for want in origins(state) {
             told.push(self.copy_fact(name, state, index, want)?)?;
             index = next_index(index)?;
         }

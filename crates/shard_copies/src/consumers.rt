@@ -9,7 +9,7 @@ ghost use Rattle.shard_machine.specs.Views.{View};
 ghost use Rattle.shard_machine.specs.Answers.{reads_stream, serves, is_earlier, makes_for, makes_consumer, for_stream, consumers_of, takes_token, paused_for, beats_of};
 ghost use Rattle.shard_copies.specs.Standing.{no_consumers, with_all, next_stamp, answer_to, refused_or};
 
-use crate::lists::{answer, consumer_for, count_beats, count_of, drop_earlier, drop_of, pause_for, refused_attempt, take_reply};
+use crate::lists::{answer, consumer_for, count_beats, count_of, drop_earlier, drop_of, pause_for, reads, refused_attempt, take_reply};
 use crate::pumps::{pumped_of, put_back};
 use js_wire::{AskerId, Packet};
 use nats_text::{List, Name, NoMemory, Stamp};
@@ -180,7 +180,7 @@ impl Consumers {
         ensures { (v : View) → v.consumers ≡ self.now.all → OnOk result (packets.new ≡ packets.old ++ beats_of v now name.now) }
     {
         for consumer in &self.all {
-            if consumer.stream() == name && consumer.beats(now) {
+            if reads(consumer, name) && consumer.beats(now) {
                 packets.push(consumer.beat()?)?;
             }
         }

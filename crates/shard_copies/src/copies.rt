@@ -37,7 +37,14 @@ fn number_since(moment: u64, rows: &[Numbered], end: u64) -> u64
 }
 
 /// The origins of a stream, by index.
-pub fn origins(copies: &Copies) -> &[Origin]
+pub fn origins(state: &StreamState) -> &[Origin]
+    ensures { (h : History) → StandsFor state.now h → result.now ≡ origins_of (facts h).config.copies }
+{
+    facts_of_histories();
+    origins_in(&state.config().copies)
+}
+
+fn origins_in(copies: &Copies) -> &[Origin]
     ensures { result.now ≡ origins_of copies.now }
 {
     match copies {

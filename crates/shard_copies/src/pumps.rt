@@ -1,5 +1,5 @@
 //! A pump of a stream's consumers, made before any of them counts as pumped.
-ghost use Rattle.std.specs.Prelude.{◌≡◌, ◌++◌, map, flat_map, IfOk};
+ghost use Rattle.std.specs.Prelude.{◌≡◌, ◌++◌, map, flat_map, IfOk, OnOk};
 ghost use Rattle.push_consumer.specs.Pumps.{pump_packets, pumped};
 ghost use Rattle.shard_machine.specs.Answers.{consumers_of};
 ghost use Rattle.shard_copies.specs.Pumped.{put_back};
@@ -49,7 +49,7 @@ pub fn pumped_of(
 
 /// Adds packets behind others.
 fn add_all(packets: &mut List<Packet>, sent: List<Packet>) -> Result<(), NoMemory>
-    ensures { IfOk result (λ _. packets.new ≡ packets.old ++ sent) }
+    ensures { OnOk result (packets.new ≡ packets.old ++ sent) }
 {
     for packet in sent.into_vec() {
         packets.push(packet)?;

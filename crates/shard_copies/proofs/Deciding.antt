@@ -1,5 +1,5 @@
 -- What copies decide, by what is looked up of them.
-use Rattle.std.proofs.Common.{◌≡◌, ℕ, ◌-◌, max, List, [], ◌∷◌, Option, Some, None, refl, sym, ap, ◌∙◌, subst}
+use Rattle.std.proofs.Common.{◌≡◌, ℕ, zero, suc, ◌-◌, ◌<◌, ◌≤◌, max, length, get_or, arith, List, [], ◌∷◌, Option, Some, None, refl, sym, ap, ◌∙◌, subst}
 use Rattle.std.specs.Prelude.{find, slice_get, option_map}
 use Rattle.std.specs.FinMap.{get}
 use Rattle.nats_text.specs.declared.origin.Origin.{Origin}
@@ -142,3 +142,33 @@ module _ (state : State) (h : History) (f : StreamFacts) (tell : TellOf h f) (st
       ∙ (ap (λ (b : Option BoundTo). source_decision want index b (record { mark = reached (copy_of name index f want); last = f.last; clock = f.clock }) now (order (asker_of v (copy_of name index f want)).phase packet) packet) (same-bound index)
       ∙ (ap (λ (r : Reached). source_decision want index (binding_at index state.held.bindings) r now (order (asker_of v (copy_of name index f want)).phase packet) packet) place
       ∙ ap (λ (x : AskerState). source_decision want index (binding_at index state.held.bindings) own now (order x.phase packet) packet) is)))
+
+-- ---- origins by index
+
+pub found-within : (xs : List Origin) (n : ℕ) → n < length xs → (x : Origin) × (slice_get xs n ≡ Some x)
+found-within [] n l = absurd (omega arith)
+found-within (x ∷ xs) zero l = (x, refl)
+found-within (x ∷ xs) (suc n) l = found-within xs n (omega arith)
+
+pub found-past : (xs : List Origin) (n : ℕ) → length xs ≤ n → slice_get xs n ≡ None
+found-past [] n l = refl
+found-past (x ∷ xs) zero l = absurd (omega arith)
+found-past (x ∷ xs) (suc n) l = found-past xs n (omega arith)
+
+pub found-read : (xs : List Origin) (n : ℕ) (x : Origin) → n < length xs → x ≡ get_or xs n x → slice_get xs n ≡ Some x
+found-read [] n x l at = absurd (omega arith)
+found-read (y ∷ ys) zero x l at = ap Some (sym at)
+found-read (y ∷ ys) (suc n) x l at = found-read ys n x (omega arith) at
+
+-- the copy of an index that has an origin
+pub copy-is : (name : List ℕ) (f : StreamFacts) (xs : List Origin) (n : ℕ) (x : Origin) (c : Copy) → xs ≡ origins_of f.config.copies → slice_get xs n ≡ Some x → copy_at n (copies_of name f) ≡ Some c → copy_of name n f x ≡ c
+copy-is name f xs n x c e at is =
+    let there : Some (copy_of name n f x) ≡ Some c =
+        sym (ap (option_map (copy_of name n f)) (ap (λ (ys : List Origin). slice_get ys n) (sym e) ∙ at)) ∙ (sym (copy-at name f (origins_of f.config.copies) n) ∙ is) in
+    cc
+
+pub no-copy : (name : List ℕ) (f : StreamFacts) (xs : List Origin) (n : ℕ) (c : Copy) → xs ≡ origins_of f.config.copies → slice_get xs n ≡ None → copy_at n (copies_of name f) ≡ Some c → ⊥
+no-copy name f xs n c e at is =
+    let there : None ≡ Some c =
+        sym (ap (option_map (copy_of name n f)) (ap (λ (ys : List Origin). slice_get ys n) (sym e) ∙ at)) ∙ (sym (copy-at name f (origins_of f.config.copies) n) ∙ is) in
+    absurd (cc)

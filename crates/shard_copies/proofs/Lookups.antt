@@ -126,3 +126,8 @@ stored-idle_under name m s i = by (get m name) refl
     by : (o : Option StreamAskers) → get m name ≡ o → (name ≡ s → stored_at (under o) s i ≡ option_map rest_of (stored_at m s i)) × ((name ≡ s) ⊎ (stored_at (under o) s i ≡ stored_at m s i))
     by None e = (λ same. none-here e same ∙ ap (option_map rest_of) (sym (none-here e same)), inr refl)
     by (Some found) e = (here found e, else_by found (bytes_eq name s) refl)
+
+-- of no askers none is found
+pub stored-empty : (s : List ℕ) (i : ℕ) → stored_at empty s i ≡ None
+unfolding or_empty
+stored-empty s i = ap (λ (x : StreamAskers). get x i) (askers-of empty s None (get-empty (slice_cmp nat_cmp) s)) ∙ get-empty nat_cmp i

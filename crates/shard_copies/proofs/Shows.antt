@@ -1,7 +1,7 @@
 -- Askers in a list show the askers of a view, before and after a change.
 use Rattle.std.proofs.Common.{◌≡◌, ℕ, Bool, true, false, cond, eqb, ◌&&◌, List, [], ◌∷◌, Option, Some, None, IsSome, refl, sym, ap, ◌∙◌, subst, ◌⊎◌, inl, inr}
 use Rattle.std.specs.Prelude.{map, option_map, find}
-use Rattle.std.specs.FinMap.{get}
+use Rattle.std.specs.FinMap.{get, empty}
 use Rattle.std.specs.Cmp.Lexicographic.{bytes_decides}
 use Rattle.std.specs.Str.{bytes_eq}
 use Rattle.std.proofs.lemmas.Bool.{eqb-true, eq-eqb}
@@ -11,7 +11,7 @@ use Rattle.replica_ask.specs.declared.phase.Phase.TheVariants.{Idle}
 use Rattle.shard_machine.specs.Views.{View, Askers, Copy, askers_of, asker_or_new, asker_of, with_asker, with_asked, with_all_asked, idle_askers, idle_under}
 use Rattle.shard_copies.specs.Asked.{AskersState, is_of, id_in, shown, ShowsAskers, HavePlaces, asked_of}
 use Rattle.shard_copies.specs.Places.{changed_in, put_in, put_all}
-use Rattle.shard_copies.proofs.Lookups.{stored_at, with_asker-own, with_asker-cases, rest_of, stored-idle, stored-idle_under}
+use Rattle.shard_copies.proofs.Lookups.{stored_at, stored-empty, with_asker-own, with_asker-cases, rest_of, stored-idle, stored-idle_under}
 
 -- ---- names
 
@@ -242,3 +242,9 @@ shows-idle_under name s v askers h = record { node = h.node; boot = h.boot; each
       | inl same ↦ absurd (let z : bytes_eq t name ≡ true = (bytes_decides t name).1 (sym same) in cc)
       | inr same ↦ found t j ∙ (mapped t j false e (find (is_of (id_in s t j)) s.all) refl ∙ (h.each t j ∙ sym (ap (asker_or_new (id_in s t j) s.boot) same)))
     ]
+
+-- ---- a shard that was just opened
+
+pub shows-none : (s : AskersState) (v : View) (node : List ℕ) (boot : ℕ) → s ≡ record { node = node; boot = boot; all = [] } → v.node ≡ node → v.image.boot ≡ boot → ShowsAskers s v empty
+shows-none s v node boot is n b = subst (λ (x : AskersState). ShowsAskers x v empty) (sym is) (record { node = sym n; boot = sym b; each = λ t j.
+    sym (ap (asker_or_new (record { node = node; stream = t; index = j }) boot) (stored-empty t j)) })

@@ -3,6 +3,7 @@ use Rattle.std.proofs.Common.{◌≡◌, ℕ, zero, suc, ◌+◌, ◌-◌, ◌<�
 use Rattle.std.specs.Prelude.{filter, flat_map}
 use Rattle.std.proofs.Math.ListN.{set}
 use Rattle.std.proofs.lemmas.List.{take_all, drop_all, drop_more, take_more, take_more_set, drop-set-lt, take-append-drop}
+use Rattle.std.proofs.lemmas.List.Edits.{map_over_more}
 use Rattle.js_wire.specs.declared.packet.AskerId.{AskerId}
 use Rattle.push_consumer.specs.Progress.{ConsumerState}
 use Rattle.replica_ask.specs.Askers.{AskerState}
@@ -117,3 +118,8 @@ none-changed id change (a ∷ others) l = by (is_of id a) l (none-changed id cha
 pub put_all-push : (ones : List AskerState) (one : AskerState) (all : List AskerState) → put_all (ones ++ one ∷ []) all ≡ put_in one (put_all ones all)
 put_all-push [] one all = refl
 put_all-push (x ∷ xs) one all = put_all-push xs one (put_in x all)
+
+-- ---- loops that change each item
+
+pub map-step : {X : Type 0} (f : X → X) (xs ys : List X) (i : ℕ) (item new : X) → i < length xs → ys ≡ map f (take i xs) ++ drop i xs → item ≡ get_or ys i item → new ≡ f (get_or ys i item) → set ys i new ≡ map f (take (i + 1) xs) ++ drop (i + 1) xs
+map-step f xs ys i item new l h at e = ap (set ys i) e ∙ map_over_more f xs ys i (get_or ys i item) l h (ap (get_or ys i) at)

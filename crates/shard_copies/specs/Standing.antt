@@ -1,12 +1,12 @@
 -- The consumers of a shard that stand, and how the answers of the shard are told of them.
-use Rattle.std.specs.Prelude.{ℕ, ◌+◌, List, [], ◌∷◌, Option, None, Some, Ok, Err}
+use Rattle.std.specs.Prelude.{◌≡◌, ℕ, ◌+◌, List, [], ◌∷◌, Option, None, Some, Ok, Err}
 use Rattle.nats_text.specs.declared.message.Stamp.{Stamp}
 use Rattle.js_wire.specs.declared.packet.Packet.{Packet}
 use Rattle.js_wire.specs.declared.packet.Packet.TheVariants.{Answer}
 use Rattle.push_consumer.specs.declared.wanted.Wanted.{Wanted}
 use Rattle.push_consumer.specs.Progress.{ConsumerState}
 use Rattle.shard_machine.specs.declared.reply.ShardRefusal.{ShardRefusal}
-use Rattle.shard_machine.specs.Views.{Effect}
+use Rattle.shard_machine.specs.Views.{View, Effect}
 use Rattle.shard_machine.specs.Answers.{Answered}
 
 -- The number of the shard's last opening, how many consumers were made since, and those that stand, in the
@@ -15,6 +15,12 @@ pub record ConsumersState : Type 0 where
   pub boot : ℕ
   pub given : ℕ
   pub all : List ConsumerState
+
+-- The consumers are those of a view.
+pub record ShowsConsumers (s : ConsumersState) (v : View) : Type 0 where
+  pub boot : s.boot ≡ v.image.boot
+  pub given : s.given ≡ v.given
+  pub all : s.all ≡ v.consumers
 
 -- no consumer was made since the opening of this number
 abbrev pub no_consumers : ℕ → ConsumersState

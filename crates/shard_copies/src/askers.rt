@@ -198,10 +198,11 @@ impl Askers {
         ensures kept { AreKept self.old asking.old → OnOk result (AreKept self.new asking.new) }
         ensures asks { (v : View) (h : History) (c : Copy) → ShowsAskers self.old v v.askers → StandsFor state.now h → copy_at index (copies_of name.now (facts h)) ≡ Some c → OnOk result (Asks asking.old asking.new v now (c ∷ [])) }
     {
-        match origins(state).get(index as usize) {
-            Some(want) => self.ask_one(alloc, name, state, index, want, now, asking),
-            None => Ok(()),
+        let all = origins(state);
+        if index as usize >= all.len() {
+            return Ok(());
         }
+        self.ask_one(alloc, name, state, index, &all[index as usize], now, asking)
     }
 
     /// What was asked counts as sent. It gives the packets.

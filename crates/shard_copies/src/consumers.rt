@@ -7,7 +7,7 @@ ghost use Rattle.replica_ask.specs.Orders.{same_stamp};
 ghost use Rattle.shard_machine.specs.Images.{NameFacts};
 ghost use Rattle.shard_machine.specs.Views.{View};
 ghost use Rattle.shard_machine.specs.Answers.{reads_stream, serves, is_earlier, makes_for, makes_consumer, for_stream, consumers_of, takes_token, paused_for, beats_of};
-ghost use Rattle.shard_copies.specs.Standing.{no_consumers, with_all, next_stamp, answer_to, refused_or};
+ghost use Rattle.shard_copies.specs.Standing.{no_consumers, with_all, next_stamp, answer_to, refused_or, ShowsConsumers};
 
 use crate::lists::{answer, consumer_for, count_beats, count_of, drop_earlier, drop_of, pause_for, reads, refused_attempt, take_reply};
 use crate::pumps::{pumped_of, put_back};
@@ -91,7 +91,7 @@ impl Consumers {
     /// Why no consumer is made for this attempt of an asker, if none is: the attempt isn't later than the
     /// one for which the asker's consumer was made, or the stream has 1,024 consumers and none of the asker.
     pub fn refusal(&self, name: &Name, asker: &AskerId, attempt: Stamp) -> Option<ShardRefusal>
-        ensures { (v : View) (now : ℕ) (known : NameFacts) (what : Wanted) → v.consumers ≡ self.now.all → what.asker ≡ asker.now → what.attempt ≡ attempt → makes_for v now known name.now what (find (serves name.now asker.now) v.consumers) ≡ refused_or result (makes_consumer v now known name.now what) }
+        ensures { (v : View) (now : ℕ) (known : NameFacts) (what : Wanted) → ShowsConsumers self.now v → what.asker ≡ asker.now → what.attempt ≡ attempt → makes_for v now known name.now what (find (serves name.now asker.now) v.consumers) ≡ refused_or result (makes_consumer v now known name.now what) }
     {
         match consumer_for(&self.all, name, asker) {
             None if count_of(&self.all, name) >= MOST => Some(ShardRefusal::TooManyConsumers),
@@ -177,7 +177,7 @@ impl Consumers {
         now: u64,
         packets: &mut List<Packet>,
     ) -> Result<(), NoMemory>
-        ensures { (v : View) → v.consumers ≡ self.now.all → OnOk result (packets.new ≡ packets.old ++ beats_of v now name.now) }
+        ensures { (v : View) → ShowsConsumers self.now v → OnOk result (packets.new ≡ packets.old ++ beats_of v now name.now) }
     {
         for consumer in &self.all {
             if reads(consumer, name) && consumer.beats(now) {

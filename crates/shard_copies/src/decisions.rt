@@ -12,6 +12,7 @@ use js_wire::Packet;
 use nats_text::NoMemory;
 use replica_ask::Asker;
 use std::alloc::Global;
+use stream_fold::laws::facts_of_histories;
 use stream_fold::{Copies, Decision, Reason, StreamState};
 
 /// What the copy of an index with this asker does about a packet to it.
@@ -28,6 +29,7 @@ pub fn decided(
     ensures fits { (h : History) → StandsFor state.now h → IfOk result (λ decision. IfEntry (Fits h) decision) }
     ensures journalled { IfOk result (λ decision. IfEntry (IsJournalled state.now.held.limits.name) decision) }
 {
+    facts_of_histories();
     match &state.config().copies {
         Copies::Nothing => Ok(Decision::Ignore(Reason::Foreign)),
         Copies::Mirror(_) => {

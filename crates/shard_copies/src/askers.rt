@@ -173,15 +173,22 @@ impl Askers {
         if let Some(asker) = kept(&self.all, &self.node, name, index) {
             return Ok(asker.clone()?);
         }
-        let id = AskerId {
-            node: self.node.clone()?,
-            stream: name.clone()?,
-            index,
-        };
+        let id = self.id_of(name, index)?;
         let asker = Asker::new(id, self.boot);
         let copy = asker.clone()?;
         self.all.push(asker)?;
         Ok(copy)
+    }
+
+    /// The name of the asker of a stream and an index.
+    fn id_of(&self, name: &Name, index: u32) -> Result<AskerId, NoMemory>
+        ensures { IfOk result (λ id. id ≡ id_in self.now name.now index) }
+    {
+        Ok(AskerId {
+            node: self.node.clone()?,
+            stream: name.clone()?,
+            index,
+        })
     }
 
     /// The copy of this index asks at this moment, as by [`Askers::ask`]. One that isn't there doesn't.

@@ -9,7 +9,7 @@ ghost use Rattle.shard_machine.specs.Views.{View};
 ghost use Rattle.shard_machine.specs.Answers.{reads_stream, serves, is_earlier, makes_for, makes_consumer, for_stream, consumers_of, takes_token, paused_for, beats_of};
 ghost use Rattle.shard_copies.specs.Standing.{no_consumers, with_all, next_stamp, answer_to, refused_or, ShowsConsumers};
 
-use crate::lists::{answer, consumer_for, count_beats, count_of, drop_earlier, drop_of, pause_for, reads, refused_attempt, take_reply};
+use crate::lists::{answer, consumer_for, copied_name, count_beats, count_of, drop_earlier, drop_of, next_count, pause_for, reads, refused_attempt, take_reply};
 use crate::pumps::{pumped_of, put_back};
 use js_wire::{AskerId, Packet};
 use nats_text::{List, Name, NoMemory, Stamp};
@@ -116,12 +116,12 @@ impl Consumers {
         ensures after { OnOk result (self.new ≡ record { boot = self.old.boot; given = self.old.given + 1; all = filter (λ c. not (serves name.now wanted.asker c)) self.old.all ++ new_consumer (next_stamp self.old) name.now wanted now ∷ [] }) }
         ensures err { OnErr result (self.new ≡ self.old) }
     {
-        let count = self.given.checked_add(1).ok_or(NoMemory)?;
+        let count = next_count(self.given)?;
         let made = Stamp {
             boot: self.boot,
             count,
         };
-        let stream = name.clone()?;
+        let stream = copied_name(name)?;
         self.all.reserve(1)?;
         packets.push(answer(made, incarnation, &wanted)?)?;
         drop_earlier(&mut self.all, name, &wanted.asker);

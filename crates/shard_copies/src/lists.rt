@@ -1,5 +1,5 @@
 //! Lists of consumers, as the answers of a shard go over them.
-ghost use Rattle.std.specs.Prelude.{◌≡◌, ◌≤◌, map, filter, find, count_by, not, if◌then◌else◌, None, Some, IfOk, vec_len};
+ghost use Rattle.std.specs.Prelude.{◌≡◌, ◌+◌, ◌≤◌, map, filter, find, count_by, not, if◌then◌else◌, None, Some, IfOk, vec_len};
 ghost use Rattle.std.specs.Option.{option_copied};
 ghost use Rattle.std.specs.Vec.{vec_capacity};
 ghost use Rattle.push_consumer.specs.Progress.{after_beat};
@@ -72,6 +72,19 @@ pub fn refused_attempt(kept: Stamp, seen: Stamp) -> Option<ShardRefusal>
     } else {
         Some(ShardRefusal::OldAttempt { kept, seen })
     }
+}
+
+/// The number behind this one.
+pub fn next_count(given: u64) -> Result<u64, NoMemory>
+    ensures { IfOk result (λ next. next ≡ given + 1) }
+{
+    given.checked_add(1).ok_or(NoMemory)
+}
+
+pub fn copied_name(name: &Name) -> Result<Name, NoMemory>
+    ensures { IfOk result (λ copy. copy ≡ name.now) }
+{
+    Ok(name.clone()?)
 }
 
 /// What the copy is answered for which a consumer was made.

@@ -35,9 +35,8 @@ pub fn pumped_of(
     let mut consumers = Vec::new(alloc);
     for consumer in all {
         if reads(consumer, name) {
-            let mut next = consumer.clone()?;
-            let sent = next.pump(alloc, state, budget, now)?;
-            add_all(&mut packets, sent)?;
+            let mut next = copied(consumer)?;
+            add_all(&mut packets, next.pump(alloc, state, budget, now)?)?;
             consumers.push(next)?;
         }
     }
@@ -45,6 +44,12 @@ pub fn pumped_of(
         packets,
         consumers,
     })
+}
+
+fn copied(consumer: &Consumer) -> Result<Consumer, NoMemory>
+    ensures { IfOk result (λ copy. copy ≡ consumer.now) }
+{
+    Ok(consumer.clone()?)
 }
 
 /// Adds packets behind others.

@@ -6,7 +6,7 @@ use Rattle.push_consumer.specs.Pumps.{pump_packets, pumped}
 use Rattle.shard_machine.specs.Answers.{consumers_of}
 use Rattle.shard_copies.proofs.Beating.{pump-one, change-one, none-more}
 use Rattle.shard_copies.proofs.pumps.pumped_of.Goals as goal
-use Rattle.shard_copies.proofs.pumps.pumped_of.Goals.{then-reads+in_ok-next+in_ok-sent+in_ok-add_all+in_ok-push, else-reads}
+use Rattle.shard_copies.proofs.pumps.pumped_of.Goals.{then-reads+in_ok-next+in_ok-pump+in_ok-add_all+in_ok-push, else-reads}
 
 pub loop-consumer-preserved : goal.loop-consumer-preserved
 loop-consumer-preserved c =
@@ -18,8 +18,7 @@ loop-consumer-preserved c =
     let i = c.loop-consumer.consumer-index in
     let x = c.consumer-item.result in
     elim c.if-reads.branch [
-      | then-reads+in_ok-next+in_ok-sent+in_ok-add_all+in_ok-push w ↦
-          let same : w.in_ok-next.next ≡ x = search rules in
+      | then-reads+in_ok-next+in_ok-pump+in_ok-add_all+in_ok-push w ↦
           record { packets = ?; consumers = ? }
       | else-reads w ↦
           let none = none-more name all i x c.loop-consumer-test.true c.consumer-item.is (sym c.reads.ensures ∙ w.if-reads.false) in

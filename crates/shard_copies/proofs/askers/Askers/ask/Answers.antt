@@ -6,7 +6,7 @@ use Rattle.stream_fold.specs.Facts.{facts}
 use Rattle.shard_machine.specs.Views.{View, Copy, copies_from, copies_of}
 use Rattle.shard_copies.specs.Asked.{AskersState, AskingState, ShowsSame, AreKept, Asks, copy_of}
 use Rattle.shard_copies.specs.Places.{is_chosen}
-use Rattle.shard_copies.proofs.CopyAsks.{same-trans, shows-same, asks-yes, asks-no, chosen-filter}
+use Rattle.shard_copies.proofs.CopyAsks.{same-trans, shows-same, asks-passes, asks-fails, chosen-filter}
 use Rattle.shard_copies.proofs.askers.Askers.ask.Goals as goal
 use Rattle.shard_copies.proofs.askers.Askers.ask.Goals.{then-is_chosen+in_ok-ask_one, else-is_chosen}
 
@@ -38,10 +38,10 @@ loop-want-preserved c = record {
         | then-is_chosen+in_ok-ask_one w ↦
             let one = subst (λ (n : ℕ). Asks c.loop-want.asking w.ask_one.new.asking v c.args.now (copy_of name n (facts h) x ∷ [])) c.loop-want.invariant.index (w.in_ok-ask_one.ensures.asks v h now_shows stands) in
             subst (λ (a : AskingState). Asks c.args.asking.now a v c.args.now (filter p (copies_from name (facts h) 0 (take (i + 1) c.origins-want-items.result.now)))) (sym w.asking-is)
-            (asks-yes c.args.asking.now c.loop-want.asking v c.args.now p name (facts h) c.origins-want-items.result.now i x c.loop-want-test.true c.want-item.is w.ask_one.new.asking before (sym test ∙ w.if-is_chosen.true) one)
+            (asks-passes c.args.asking.now c.loop-want.asking v c.args.now p name (facts h) c.origins-want-items.result.now i x c.loop-want-test.true c.want-item.is w.ask_one.new.asking before (sym test ∙ w.if-is_chosen.true) one)
         | else-is_chosen w ↦
             subst (λ (a : AskingState). Asks c.args.asking.now a v c.args.now (filter p (copies_from name (facts h) 0 (take (i + 1) c.origins-want-items.result.now)))) (sym w.asking-is)
-            (asks-no c.args.asking.now c.loop-want.asking v c.args.now p name (facts h) c.origins-want-items.result.now i x c.loop-want-test.true c.want-item.is before (sym test ∙ w.if-is_chosen.false))
+            (asks-fails c.args.asking.now c.loop-want.asking v c.args.now p name (facts h) c.origins-want-items.result.now i x c.loop-want-test.true c.want-item.is before (sym test ∙ w.if-is_chosen.false))
       ];
 }
 

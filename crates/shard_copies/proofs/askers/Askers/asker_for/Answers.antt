@@ -9,7 +9,13 @@ use Rattle.shard_copies.proofs.CopyAsks.{same-push, places-push, found-push}
 use Rattle.shard_copies.proofs.askers.Askers.asker_for.Goals as goal
 
 items : (c : goal.In_ok-push) → c.push.new.self.items ≡ c.args.self.now.all ++ new_asker (id_in c.args.self.now c.args.name.now c.args.index) c.args.self.now.boot ∷ []
-items c = ?
+items c =
+    let s = c.args.self.now in
+    let id = id_in s c.args.name.now c.args.index in
+    c.in_ok-push.ensures.items
+    ∙ (ap (λ (x : AskersState). x.all ++ c.new-asker.result ∷ []) c.self.view_is
+    ∙ ap (λ (a : AskerState). s.all ++ a ∷ [])
+      (c.new-asker.ensures ∙ (ap (λ (x : AskerId). new_asker x c.self.inside.boot) c.in_ok-id.ensures ∙ ap (λ (x : AskersState). new_asker id x.boot) c.self.view_is)))
 
 pub returns-clause-shown : goal.returns-clause-shown
 returns-clause-shown c =

@@ -31,10 +31,14 @@ same-trans a b c h k = record { node = k.node ∙ h.node; boot = k.boot ∙ h.bo
 
 -- askers that look the same show the same view
 pub shows-same : (a b : AskersState) (v : View) (askers : Askers) → ShowsSame a b → ShowsAskers a v askers → ShowsAskers b v askers
-shows-same a b v askers h k = record { node = h.node ∙ k.node; boot = h.boot ∙ k.boot; each = λ t j.
-    h.each t j ∙ (k.each t j
-    ∙ (ap (λ (n : List ℕ). asker_or_new (record { node = n; stream = t; index = j }) a.boot (get (askers_of askers t) j)) (sym h.node)
-    ∙ ap (λ (m : ℕ). asker_or_new (id_in b t j) m (get (askers_of askers t) j)) (sym h.boot))) }
+shows-same a b v askers h k = record {
+  node = h.node ∙ k.node;
+  boot = h.boot ∙ k.boot;
+  each = λ t j.
+      h.each t j ∙ (k.each t j
+      ∙ (ap (λ (n : List ℕ). asker_or_new (record { node = n; stream = t; index = j }) a.boot (get (askers_of askers t) j)) (sym h.node)
+      ∙ ap (λ (m : ℕ). asker_or_new (id_in b t j) m (get (askers_of askers t) j)) (sym h.boot)));
+}
 
 -- ---- a place more
 

@@ -60,7 +60,7 @@ decides-none s v h name f index now packet none = by (copy_at index (copies_of n
     by (Some c) e =
         let is = found-at name f index c e in
         let here : find (is_of (id_in s c.stream c.index)) s.all ≡ None =
-            ap (λ (t : List ℕ). find (is_of (id_in s t c.index)) s.all) is.0 ∙ (ap (λ (j : ℕ). find (is_of (id_in s name j)) s.all) is.1 ∙ none) in
+        ap (λ (t : List ℕ). find (is_of (id_in s t c.index)) s.all) is.0 ∙ (ap (λ (j : ℕ). find (is_of (id_in s name j)) s.all) is.1 ∙ none) in
         idle-ignores c.facts.config.copies v c now packet (idle-shown s v h c here)
 
 -- the asker that is found is that of the copy
@@ -79,9 +79,9 @@ pub follows-shows : (s : AskersState) (v : View) (c : Copy) (name : List ℕ) (i
 follows-shows s v c name index d packet now h e f is =
     let one : AskerState = with_phase (asker_of v c) (phase_behind d packet now (asker_of v c).phase) in
     let stays : find (is_of (id_in s c.stream c.index)) s.all ≡ None → moved_on d packet now (new_asker (id_in s c.stream c.index) s.boot) ≡ new_asker (id_in s c.stream c.index) s.boot =
-        λ none. ap (λ (x : Decision). moved_on x packet now (new_asker (id_in s c.stream c.index) s.boot)) (is ∙ idle-ignores c.facts.config.copies v c now packet (idle-shown s v h c none)) in
+    λ none. ap (λ (x : Decision). moved_on x packet now (new_asker (id_in s c.stream c.index) s.boot)) (is ∙ idle-ignores c.facts.config.copies v c now packet (idle-shown s v h c none)) in
     let own : ShowsAskers (with_list s (changed_in (id_in s c.stream c.index) (moved_on d packet now) s.all)) v (with_asker c.stream c.index one v.askers) =
-        shows-changed s v v.askers c.stream c.index (moved_on d packet now) one (λ a q. q) stays (ap (moved_on d packet now) (sym (asker-shown s v h c))) h in
+    shows-changed s v v.askers c.stream c.index (moved_on d packet now) one (λ a q. q) stays (ap (moved_on d packet now) (sym (asker-shown s v h c))) h in
     subst (λ (t : List ℕ). ShowsAskers (with_list s (changed_in (id_in s t index) (moved_on d packet now) s.all)) v (with_asker c.stream c.index one v.askers)) e
     (subst (λ (j : ℕ). ShowsAskers (with_list s (changed_in (id_in s c.stream j) (moved_on d packet now) s.all)) v (with_asker c.stream c.index one v.askers)) f own)
 
@@ -112,11 +112,11 @@ module _ (state : State) (h : History) (f : StreamFacts) (tell : TellOf h f) (st
       let mirror : f.config.copies ≡ Mirror o = same-copies ∙ e in
       let there : copy_at 0 (copies_of name f) ≡ Some (copy_of name 0 f o) = ap (λ (x : Copies). copy_at 0 (copies_from name f 0 (origins_of x))) mirror in
       let reach : reached (copy_of name 0 f o) ≡ front_held state.held =
-          ap (λ (x : Copies). reached_by x 0 o f) mirror
-          ∙ (tell.front o.start
-          ∙ (ap (λ (n : ℕ). max n (start_by (bound 0 h.entries) o.start - 1)) (sym stands.last)
-          ∙ (ap (λ (b : Option BoundTo). max state.held.last (start_by b o.start - 1)) (sym (stands.bound 0))
-          ∙ sym (ap (λ (x : Copies). max state.held.last (mirror_start (binding_at 0 state.held.bindings) x - 1)) e)))) in
+      ap (λ (x : Copies). reached_by x 0 o f) mirror
+      ∙ (tell.front o.start
+      ∙ (ap (λ (n : ℕ). max n (start_by (bound 0 h.entries) o.start - 1)) (sym stands.last)
+      ∙ (ap (λ (b : Option BoundTo). max state.held.last (start_by b o.start - 1)) (sym (stands.bound 0))
+      ∙ sym (ap (λ (x : Copies). max state.held.last (mirror_start (binding_at 0 state.held.bindings) x - 1)) e)))) in
       ap (decided_at v now packet) there
       ∙ (ap (λ (x : Copies). decided_by x v (copy_of name 0 f o) now packet) mirror
       ∙ (ap (λ (b : Option BoundTo). mirror_decision b (reached (copy_of name 0 f o)) (order (asker_of v (copy_of name 0 f o)).phase packet) packet) (same-bound 0)
@@ -130,13 +130,13 @@ module _ (state : State) (h : History) (f : StreamFacts) (tell : TellOf h f) (st
   decides-source v now packet name origins index want a e at is =
       let sources : f.config.copies ≡ Sources origins = same-copies ∙ e in
       let there : copy_at index (copies_of name f) ≡ Some (copy_of name index f want) =
-          copy-at name f (origins_of f.config.copies) index
-          ∙ (ap (λ (x : Copies). option_map (copy_of name index f) (slice_get (origins_of x) index)) sources
-          ∙ ap (option_map (copy_of name index f)) at) in
+      copy-at name f (origins_of f.config.copies) index
+      ∙ (ap (λ (x : Copies). option_map (copy_of name index f) (slice_get (origins_of x) index)) sources
+      ∙ ap (option_map (copy_of name index f)) at) in
       let reach : reached (copy_of name index f want) ≡ mark index h = ap (λ (x : Copies). reached_by x index want f) sources ∙ tell.mark index in
       let own : Reached = record { mark = mark index h; last = state.held.last; clock = state.held.clock } in
       let place : record { mark = reached (copy_of name index f want); last = f.last; clock = f.clock } ≡ own =
-          λ i. record { mark = reach i; last = (tell.last ∙ sym stands.last) i; clock = (tell.clock ∙ sym stands.clock) i } in
+      λ i. record { mark = reach i; last = (tell.last ∙ sym stands.last) i; clock = (tell.clock ∙ sym stands.clock) i } in
       ap (decided_at v now packet) there
       ∙ (ap (λ (x : Copies). decided_by x v (copy_of name index f want) now packet) sources
       ∙ (ap (λ (b : Option BoundTo). source_decision want index b (record { mark = reached (copy_of name index f want); last = f.last; clock = f.clock }) now (order (asker_of v (copy_of name index f want)).phase packet) packet) (same-bound index)
@@ -164,11 +164,11 @@ found-read (y ∷ ys) (suc n) x l at = found-read ys n x (omega arith) at
 pub copy-is : (name : List ℕ) (f : StreamFacts) (xs : List Origin) (n : ℕ) (x : Origin) (c : Copy) → xs ≡ origins_of f.config.copies → slice_get xs n ≡ Some x → copy_at n (copies_of name f) ≡ Some c → copy_of name n f x ≡ c
 copy-is name f xs n x c e at is =
     let there : Some (copy_of name n f x) ≡ Some c =
-        sym (ap (option_map (copy_of name n f)) (ap (λ (ys : List Origin). slice_get ys n) (sym e) ∙ at)) ∙ (sym (copy-at name f (origins_of f.config.copies) n) ∙ is) in
+    sym (ap (option_map (copy_of name n f)) (ap (λ (ys : List Origin). slice_get ys n) (sym e) ∙ at)) ∙ (sym (copy-at name f (origins_of f.config.copies) n) ∙ is) in
     cc
 
 pub no-copy : (name : List ℕ) (f : StreamFacts) (xs : List Origin) (n : ℕ) (c : Copy) → xs ≡ origins_of f.config.copies → slice_get xs n ≡ None → copy_at n (copies_of name f) ≡ Some c → ⊥
 no-copy name f xs n c e at is =
     let there : None ≡ Some c =
-        sym (ap (option_map (copy_of name n f)) (ap (λ (ys : List Origin). slice_get ys n) (sym e) ∙ at)) ∙ (sym (copy-at name f (origins_of f.config.copies) n) ∙ is) in
+    sym (ap (option_map (copy_of name n f)) (ap (λ (ys : List Origin). slice_get ys n) (sym e) ∙ at)) ∙ (sym (copy-at name f (origins_of f.config.copies) n) ∙ is) in
     absurd (cc)

@@ -180,9 +180,9 @@ shows-asked v now (c ∷ cs) s askers (one ∷ ones) ids e places h =
     let id : one.id ≡ id_in s c.stream c.index = ap (λ (a : AskerState). a.id) is ∙ ids c in
     let there : IsSome (find (is_of (id_in s c.stream c.index)) s.all) = subst (λ (x : AskerId). IsSome (find (is_of x) s.all)) id places.0 in
     let step : ShowsAskers (with_list s (changed_in (id_in s c.stream c.index) (λ _. one) s.all)) v (with_asker c.stream c.index (asked_of v now c) askers) =
-        shows-changed s v askers c.stream c.index (λ _. one) (asked_of v now c) (λ a q. id) (λ none. absurd (some-not-none (find (is_of (id_in s c.stream c.index)) s.all) there none)) is h in
+    shows-changed s v askers c.stream c.index (λ _. one) (asked_of v now c) (λ a q. id) (λ none. absurd (some-not-none (find (is_of (id_in s c.stream c.index)) s.all) there none)) is h in
     let put : ShowsAskers (with_list s (put_in one s.all)) v (with_asked v now c askers) =
-        subst (λ (x : AskerId). ShowsAskers (with_list s (changed_in x (λ _. one) s.all)) v (with_asker c.stream c.index (asked_of v now c) askers)) (sym id) step in
+    subst (λ (x : AskerId). ShowsAskers (with_list s (changed_in x (λ _. one) s.all)) v (with_asker c.stream c.index (asked_of v now c) askers)) (sym id) step in
     shows-asked v now cs (with_list s (put_in one s.all)) (with_asked v now c askers) ones ids rest (places-put one s.all ones places.1) put
 
 -- ---- askers that forget what they asked
@@ -202,11 +202,15 @@ module _ (id : AskerId) (change : AskerState → AskerState) (keeps : (a : Asker
 
 -- all are idle
 pub shows-idle : (s : AskersState) (v : View) (askers : Askers) → ShowsAskers s v askers → ShowsAskers (with_list s (map rest_of s.all)) v (idle_askers askers)
-shows-idle s v askers h = record { node = h.node; boot = h.boot; each = λ t j.
-    ap (asker_or_new (id_in s t j) s.boot) (find-mapped (id_in s t j) rest_of (λ a. refl) s.all)
-    ∙ (or-idle (id_in s t j) s.boot (find (is_of (id_in s t j)) s.all)
-    ∙ (ap rest_of (h.each t j)
-    ∙ sym (ap (asker_or_new (id_in s t j) s.boot) (stored-idle askers t j) ∙ or-idle (id_in s t j) s.boot (stored_at askers t j)))) }
+shows-idle s v askers h = record {
+  node = h.node;
+  boot = h.boot;
+  each = λ t j.
+      ap (asker_or_new (id_in s t j) s.boot) (find-mapped (id_in s t j) rest_of (λ a. refl) s.all)
+      ∙ (or-idle (id_in s t j) s.boot (find (is_of (id_in s t j)) s.all)
+      ∙ (ap rest_of (h.each t j)
+      ∙ sym (ap (asker_or_new (id_in s t j) s.boot) (stored-idle askers t j) ∙ or-idle (id_in s t j) s.boot (stored_at askers t j))));
+}
 
 -- the askers of a stream are idle
 abbrev pub rest_under : List ℕ → AskerState → AskerState
@@ -246,5 +250,9 @@ shows-idle_under name s v askers h = record { node = h.node; boot = h.boot; each
 -- ---- a shard that was just opened
 
 pub shows-none : (s : AskersState) (v : View) (node : List ℕ) (boot : ℕ) → s ≡ record { node = node; boot = boot; all = [] } → v.node ≡ node → v.image.boot ≡ boot → ShowsAskers s v empty
-shows-none s v node boot is n b = subst (λ (x : AskersState). ShowsAskers x v empty) (sym is) (record { node = sym n; boot = sym b; each = λ t j.
-    sym (ap (asker_or_new (record { node = node; stream = t; index = j }) boot) (stored-empty t j)) })
+shows-none s v node boot is n b = subst (λ (x : AskersState). ShowsAskers x v empty) (sym is) (record {
+  node = sym n;
+  boot = sym b;
+  each = λ t j.
+      sym (ap (asker_or_new (record { node = node; stream = t; index = j }) boot) (stored-empty t j));
+})

@@ -114,14 +114,7 @@ impl Askers {
     }
 
     /// Whether the copy of an origin is one of those that are meant.
-    fn is_chosen(
-        &self,
-        name: &Name,
-        index: u32,
-        want: &Origin,
-        which: &Chosen,
-        now: u64,
-    ) -> bool
+    fn is_chosen(&self, name: &Name, index: u32, want: &Origin, which: &Chosen, now: u64) -> bool
         ensures { (v : View) (f : StreamFacts) → ShowsAskers self.now v v.askers → result ≡ is_chosen which.now v now (copy_of name.now index f want.now) }
     {
         match which {
@@ -247,10 +240,25 @@ impl Askers {
     }
 
     /// The copy followed its decision about a packet. One that asks again asked by [`Askers::ask_again`] instead.
-    pub fn follow(&mut self, name: &Name, index: u32, decision: &Decision, packet: &Packet, now: u64)
+    pub fn follow(
+        &mut self,
+        name: &Name,
+        index: u32,
+        decision: &Decision,
+        packet: &Packet,
+        now: u64,
+    )
         ensures { (v : View) (c : Copy) → ShowsAskers self.old v v.askers → c.stream ≡ name.now → c.index ≡ index → decision.now ≡ decided_at v now packet.now (Some c) → ShowsAskers self.new v (with_asker c.stream c.index (with_phase (asker_of v c) (phase_behind decision.now packet.now now (asker_of v c).phase)) v.askers) }
     {
-        move_on_in(&mut self.all, &self.node, name, index, decision, packet, now);
+        move_on_in(
+            &mut self.all,
+            &self.node,
+            name,
+            index,
+            decision,
+            packet,
+            now,
+        );
     }
 
     /// How far each of a stream's copies has come, in the order of its origins.

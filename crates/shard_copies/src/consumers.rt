@@ -9,7 +9,10 @@ ghost use Rattle.shard_machine.specs.Views.{View};
 ghost use Rattle.shard_machine.specs.Answers.{reads_stream, serves, is_earlier, makes_for, makes_consumer, for_stream, consumers_of, takes_token, paused_for, beats_of};
 ghost use Rattle.shard_copies.specs.Standing.{no_consumers, with_all, next_stamp, answer_to, refused_or, ShowsConsumers};
 
-use crate::lists::{answer, consumer_for, copied_name, count_beats, count_of, drop_earlier, drop_of, next_count, pause_for, reads, refused_attempt, take_reply};
+use crate::lists::{
+    answer, consumer_for, copied_name, count_beats, count_of, drop_earlier, drop_of, next_count,
+    pause_for, reads, refused_attempt, take_reply,
+};
 use crate::pumps::{pumped_of, put_back};
 use js_wire::{AskerId, Packet};
 use nats_text::{List, Name, NoMemory, Stamp};
@@ -125,7 +128,8 @@ impl Consumers {
         self.all.reserve(1)?;
         packets.push(answer(made, incarnation, &wanted)?)?;
         drop_earlier(&mut self.all, name, &wanted.asker);
-        self.all.push_reserved(Consumer::new(made, stream, wanted, now));
+        self.all
+            .push_reserved(Consumer::new(made, stream, wanted, now));
         self.given = count;
         Ok(made)
     }

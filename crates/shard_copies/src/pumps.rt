@@ -40,10 +40,7 @@ pub fn pumped_of(
             consumers.push(next)?;
         }
     }
-    Ok(Pumped {
-        packets,
-        consumers,
-    })
+    Ok(Pumped { packets, consumers })
 }
 
 fn copied(consumer: &Consumer) -> Result<Consumer, NoMemory>

@@ -10,7 +10,7 @@ returns-then-place-all c =
     let id : AskerId = record { node = c.args.node.now; stream = c.args.stream.now; index = c.args.index } in
     ap (set c.args.all.now c.place_of-place.result) c.move_on.ensures
     ∙ set-changed id (moved_on c.args.decision.now c.args.packet.now c.args.now) c.args.all.now c.place_of-place.result
-      (get_or c.args.all.now c.place_of-place.result c.index-all-place.result) c.place_of-place.ensures c.if-place-all.true (ap (get_or c.args.all.now c.place_of-place.result) c.index-all-place.is)
+    (get_or c.args.all.now c.place_of-place.result c.index-all-place.result) c.place_of-place.ensures c.if-place-all.true (ap (get_or c.args.all.now c.place_of-place.result) c.index-all-place.is)
 
 pub returns-else-place-all : goal.returns-else-place-all
 returns-else-place-all c =

@@ -30,6 +30,6 @@ returns-clause-asks c = λ v h shows stands.
     let want = c.args.want.now in
     let node : c.node_or.result.now ≡ node_or s.node want.node = c.node_or.ensures ∙ ap (λ (n : List ℕ). node_or n want.node) (ap (λ (x : AskersState). x.node) c.self.view_is ∙ c.in_ok-asker.ensures.shown.node) in
     let packets : c.push.new.self ≡ c.args.asking.now.packets ++ Ask one.id (next_attempt one) (node_or s.node want.node) want.stream c.in_ok-start.start (filters_of want) ∷ [] =
-        c.in_ok-push.ensures.ok ∙ (ap (λ (a : AskingState). a.packets ++ c.in_ok-packet.packet ∷ []) c.asking.view_is
-        ∙ ap (λ (p : Packet). c.args.asking.now.packets ++ p ∷ []) (c.in_ok-packet.ensures.packet ∙ ap (λ (n : List ℕ). Ask one.id (next_attempt one) n want.stream c.in_ok-start.start (filters_of want)) node)) in
+    c.in_ok-push.ensures.ok ∙ (ap (λ (a : AskingState). a.packets ++ c.in_ok-packet.packet ∷ []) c.asking.view_is
+    ∙ ap (λ (p : Packet). c.args.asking.now.packets ++ p ∷ []) (c.in_ok-packet.ensures.packet ∙ ap (λ (n : List ℕ). Ask one.id (next_attempt one) n want.stream c.in_ok-start.start (filters_of want)) node)) in
     asks-one s c.args.asking.now (record { packets = c.push.new.self; askers = c.push-2.new.self.items }) v c.args.now (copy_of c.args.name.now c.args.index (facts h) want) c.in_ok-start.start one shows c.in_ok-asker.ensures.asker (c.in_ok-start.ensures c.args.name.now h stands) packets (now_asker c)

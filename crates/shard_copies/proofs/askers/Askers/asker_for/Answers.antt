@@ -15,14 +15,14 @@ items c =
     c.in_ok-push.ensures.items
     ∙ (ap (λ (x : AskersState). x.all ++ c.new-asker.result ∷ []) c.self.view_is
     ∙ ap (λ (a : AskerState). s.all ++ a ∷ [])
-      (c.new-asker.ensures ∙ (ap (λ (x : AskerId). new_asker x c.self.inside.boot) c.in_ok-id.ensures ∙ ap (λ (x : AskersState). new_asker id x.boot) c.self.view_is)))
+    (c.new-asker.ensures ∙ (ap (λ (x : AskerId). new_asker x c.self.inside.boot) c.in_ok-id.ensures ∙ ap (λ (x : AskersState). new_asker id x.boot) c.self.view_is)))
 
 pub returns-clause-shown : goal.returns-clause-shown
 returns-clause-shown c =
     let s = c.args.self.now in
     let one = new_asker (id_in s c.args.name.now c.args.index) s.boot in
     let is : record { node = c.self.inside.node; boot = c.self.inside.boot; all = c.push.new.self.items } ≡ with_list s (s.all ++ one ∷ []) =
-        (λ i. record { node = c.self.inside.node; boot = c.self.inside.boot; all = items c i }) ∙ ap (λ (x : AskersState). with_list x (s.all ++ one ∷ [])) c.self.view_is in
+    (λ i. record { node = c.self.inside.node; boot = c.self.inside.boot; all = items c i }) ∙ ap (λ (x : AskersState). with_list x (s.all ++ one ∷ [])) c.self.view_is in
     subst (λ (x : AskersState). ShowsSame s x) (sym is) (same-push s c.args.name.now c.args.index)
 
 pub returns-clause-places : goal.returns-clause-places
@@ -35,6 +35,6 @@ returns-clause-kept c =
     let index = c.args.index in
     let id : AskerId = record { node = c.self.inside.node; stream = name; index = index } in
     let none : find (is_of (id_in s name index)) s.all ≡ None =
-        ap (λ (x : AskersState). find (is_of (id_in x name index)) x.all) (sym c.self.view_is)
-        ∙ (ap (λ (l : List AskerState). find (is_of id) l) (sym c.deref.ensures.value) ∙ (sym c.kept.ensures ∙ ap option_copied c.in_default.is)) in
+    ap (λ (x : AskersState). find (is_of (id_in x name index)) x.all) (sym c.self.view_is)
+    ∙ (ap (λ (l : List AskerState). find (is_of id) l) (sym c.deref.ensures.value) ∙ (sym c.kept.ensures ∙ ap option_copied c.in_default.is)) in
     subst (λ (l : List AskerState). IsSome (find (is_of (id_in s name index)) l)) (sym (items c)) (found-push s name index none)

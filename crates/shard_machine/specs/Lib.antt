@@ -6,3 +6,4 @@ pub mod Views
 pub mod Answers
 pub mod Steps
 pub mod StepLaws
+pub mod Refusing

@@ -9,8 +9,10 @@
 mod call;
 mod facts;
 pub mod laws;
+mod refuse;
 mod reply;
 
 pub use call::{ShardCall, Which};
 pub use facts::{CopyFact, Facts};
+pub use refuse::refused;
 pub use reply::{Outcome, ShardRefusal, ShardReply};

@@ -11,7 +11,7 @@ use Rattle.shard_machine.specs.declared.facts.Facts.{Facts}
 use Rattle.shard_store.specs.declared.fault.Part.TheVariants.{Main, Spare}
 use Rattle.shard_store.specs.declared.fault.StoreFault.{StoreFault}
 use Rattle.shard_store.specs.declared.fault.StoreFault.TheVariants.{ReadFault, BadJournal, TooLong, NoMemory}
-use Rattle.shard_store.specs.declared.replay.Replay.{Replay}
+use Rattle.log_replay.specs.declared.replay.Replay.{Replay}
 use Rattle.shard_machine.specs.Legal.{IsLogOf, IsNoNext, MayFollow, MayAllFollow}
 use Rattle.shard_store.specs.Stores.{LacksGate, HasBadBody, EndsWithBadLength, HasBadGate, HasNo, IsWhole, OneCounts, bodies_of}
 use Rattle.shard_store.specs.Reads.{ReadsAreas, ReadsLog, ShowsLog}

@@ -22,12 +22,12 @@ use Rattle.stream_fold.specs.declared.config.Config.{Config}
 use Rattle.record_codec.specs.declared.records.Rec.{Rec}
 use Rattle.shard_machine.specs.declared.facts.CopyFact.{CopyFact}
 use Rattle.shard_machine.specs.declared.facts.Facts.{Facts}
-use Rattle.shard_store.specs.declared.replay.Known.{Known}
-use Rattle.shard_store.specs.declared.replay.Standing.{Standing}
-use Rattle.shard_store.specs.declared.replay.Replay.{Replay}
+use Rattle.log_replay.specs.declared.replay.Known.{Known}
+use Rattle.log_replay.specs.declared.replay.Standing.{Standing}
+use Rattle.log_replay.specs.declared.replay.Replay.{Replay}
 use Rattle.shard_machine.specs.Logs.{Made, Named, named, live, by_incarnation}
 use Rattle.shard_store.specs.Streams.{copy_fact, source_facts, facts_of, IsShown, name_of, AreStreams}
-use Rattle.shard_store.specs.Replays.{found, StandsAs, StandsIf, Knows, IsReplayOf}
+use Rattle.log_replay.specs.Replays.{found, StandsAs, StandsIf, Knows, IsReplayOf}
 use Rattle.shard_store.specs.Reads.{AddsShown}
 
 -- one fact more of the sources

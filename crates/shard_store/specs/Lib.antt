@@ -1,4 +1,3 @@
-pub mod Replays
 pub mod Streams
 pub mod Stores
 pub mod Reads

@@ -12,12 +12,12 @@ use Rattle.shard_store.specs.declared.fault.Part.{Part}
 use Rattle.shard_store.specs.declared.fault.Part.TheVariants.{Spare}
 use Rattle.shard_store.specs.declared.fault.StoreFault.{StoreFault}
 use Rattle.shard_store.specs.declared.fault.StoreFault.TheVariants.{ReadFault, BadJournal, TooLong, NoMemory}
-use Rattle.shard_store.specs.declared.replay.Replay.{Replay}
-use Rattle.shard_store.specs.declared.replay.Standing.{Standing}
+use Rattle.log_replay.specs.declared.replay.Replay.{Replay}
+use Rattle.log_replay.specs.declared.replay.Standing.{Standing}
 use Rattle.shard_machine.specs.Logs.{Made, boot}
 use Rattle.shard_machine.specs.Legal.{IsLogOf}
 use Rattle.shard_store.specs.Streams.{AreStreams, facts_of}
-use Rattle.shard_store.specs.Replays.{IsReplayOf}
+use Rattle.log_replay.specs.Replays.{IsReplayOf}
 use Rattle.shard_store.specs.Stores.{LacksGate, HasBadGate, HasNo, IsFirst, IsBadPair, OneCounts, IsWhole, bodies_of, OnSpares, SpareHas}
 
 -- what the disk of this part holds

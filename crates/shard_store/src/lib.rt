@@ -7,7 +7,6 @@
 mod fault;
 mod list;
 mod read;
-mod replay;
 
 pub use fault::{Part, StoreFault};
 pub use read::read_streams;

@@ -5,12 +5,12 @@ ghost use Rattle.stream_fold.specs.Held.{StandsFor};
 ghost use Rattle.record_codec.specs.declared.records.Rec.{Rec as Record};
 ghost use Rattle.shard_machine.specs.Logs.{Made};
 ghost use Rattle.shard_machine.specs.Legal.{IsLegal};
-ghost use Rattle.shard_store.specs.Replays.{IsReplayOf};
+ghost use Rattle.log_replay.specs.Replays.{IsReplayOf};
 ghost use Rattle.shard_store.specs.Streams.{AreStreams, copy_fact, copy_facts, facts_of, source_facts};
 ghost use Rattle.shard_store.specs.Reads.{IsMade, Shows, AddsShown};
 
-use crate::replay::{Known, Replay, Standing};
 use crate::{CopyFact, Facts};
+use log_replay::{Known, Replay, Standing};
 use nats_text::{List, NoMemory, Origin, Start};
 use std::alloc::Global;
 use stream_fold::{BoundTo, Copies, Numbered, StreamState};

@@ -5,15 +5,15 @@ ghost use Rattle.record_codec.specs.declared.records.Rec.{Rec as Record};
 ghost use Rattle.shard_store.specs.declared.fault.Part.TheVariants.{Main};
 ghost use Rattle.shard_store.specs.declared.fault.StoreFault.TheVariants.{BadJournal};
 ghost use Rattle.shard_machine.specs.Legal.{IsLegal};
-ghost use Rattle.shard_store.specs.Replays.{IsReplayOf};
+ghost use Rattle.log_replay.specs.Replays.{IsReplayOf};
 ghost use Rattle.shard_store.specs.Stores.{ReadsStore, OnSpares, StoreCauses};
 ghost use Rattle.shard_store.specs.Reads.{FindsArea, FindsSpare, FindCauses, SpareCauses, IsNoDiskFault, ReadsAreas, FindsGates, ReadsLog, ShowsLog};
 
 use crate::list::streams;
-use crate::replay::{Replay, Replayed, read_log};
 use crate::{Facts, Part, StoreFault};
 use gate_journal::{Area, Ending, LoadFault};
 use leaf_edges::Disk;
+use log_replay::{Replay, Replayed, read_log};
 use nats_text::List;
 use std::alloc::Global;
 use stream_fold::Numbered;

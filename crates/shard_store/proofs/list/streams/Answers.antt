@@ -1,7 +1,7 @@
 use Rattle.std.proofs.Common.{ℕ, List, All, sym, subst}
 use Rattle.std.specs.Global.{Vec}
 use Rattle.std.proofs.lemmas.List.Elements.{All-tail}
-use Rattle.shard_store.specs.declared.replay.Known.{Known}
+use Rattle.log_replay.specs.declared.replay.Known.{Known}
 use Rattle.shard_store.proofs.Listing.{IsFound, SoFar, standing_names, walk_begins, walk_goes_on, are_streams}
 use Rattle.shard_store.proofs.list.streams.Goals as goal
 

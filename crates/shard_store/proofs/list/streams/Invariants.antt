@@ -1,6 +1,6 @@
 use Rattle.std.proofs.Common.{All, List}
 use Rattle.record_codec.specs.declared.records.Rec.{Rec}
-use Rattle.shard_store.specs.Replays.{IsReplayOf}
+use Rattle.log_replay.specs.Replays.{IsReplayOf}
 use Rattle.shard_store.proofs.Listing.{IsFound, SoFar, standing_names}
 use Rattle.shard_store.proofs.list.streams.Given as goal
 

@@ -1,7 +1,7 @@
 use Rattle.std.proofs.Common.{ℕ, List, inl, refl, sym, subst}
 use Rattle.std.specs.Prelude.{Ok}
-use Rattle.shard_store.specs.declared.replay.Replayed.{Replayed}
-use Rattle.shard_store.specs.Replays.{Replays}
+use Rattle.log_replay.specs.declared.replay.Replayed.{Replayed}
+use Rattle.log_replay.specs.Replays.{Replays}
 use Rattle.shard_store.specs.Stores.{HasBadGate}
 use Rattle.shard_store.proofs.AreaFaults.{bad_body}
 use Rattle.shard_store.proofs.read.log_of.Goals as goal

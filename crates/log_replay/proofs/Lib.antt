@@ -1,0 +1,3 @@
+pub mod LogBodies
+pub mod LogKnown
+pub mod MapSteps

@@ -1,6 +1,0 @@
-use Rattle.std.proofs.Common.{refl, Some}
-use Rattle.shard_store.proofs.MapSteps.{puts}
-use Rattle.shard_store.proofs.replay.Replay.put.Goals as goal
-
-pub returns : goal.returns
-returns c = (refl, puts c.args.key.items (Some c.args.known) c.args.self.now.names c.insert.new.self c.in_ok-insert.ensures.updates)

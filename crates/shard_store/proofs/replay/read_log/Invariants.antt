@@ -1,9 +1,0 @@
-use Rattle.std.proofs.Common.{List, take}
-use Rattle.record_codec.specs.declared.records.Rec.{Rec}
-use Rattle.shard_machine.specs.Legal.{IsLogOf}
-use Rattle.shard_store.specs.Replays.{IsReplayOf}
-use Rattle.shard_store.proofs.replay.read_log.Given as goal
-
--- the bodies so far are a log, and this is held of it
-abbrev pub invariant-loop-index : goal.invariant-loop-index
-invariant-loop-index l = (log : List Rec) × IsLogOf log (take l.index l.bodies) × IsReplayOf l.replay log

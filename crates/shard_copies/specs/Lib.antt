@@ -1,0 +1,4 @@
+pub mod Standing
+pub mod Pumped
+pub mod Asked
+pub mod Places

@@ -1,0 +1,14 @@
+pub mod AnswerKinds
+pub mod CallSteps
+pub mod Devices
+pub mod FaultCounts
+pub mod FirstOpenings
+pub mod Loading
+pub mod LogLists
+pub mod Reopened
+pub mod ShardAnswers
+pub mod ShardCalls
+pub mod ShardMoves
+pub mod Spelled
+pub mod StepsBehind
+pub mod TableKinds

@@ -1,0 +1,13 @@
+pub mod Shown
+pub mod SameConfigs
+pub mod Removals
+pub mod Publishes
+pub mod ShownFacts
+pub mod LiveNames
+pub mod Decides
+pub mod Names
+pub mod Replaying
+pub mod Counting
+pub mod Taking
+pub mod Making
+pub mod Telling

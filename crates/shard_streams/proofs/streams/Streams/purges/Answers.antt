@@ -1,0 +1,9 @@
+use Rattle.std.proofs.Common.{sym, ap}
+use Rattle.shard_machine.specs.Answers.{purges}
+use Rattle.shard_streams.proofs.streams.Streams.purges.Goals as goal
+
+pub returns-in-None : goal.returns-in-None
+returns-in-None c = λ v holds. sym (ap (purges v c.args.name.now c.args.pattern.now c.args.below) (c.in-None.ensures v.image holds))
+
+pub returns-in-Some : goal.returns-in-Some
+returns-in-Some c = λ v holds. c.purge.ensures v c.args.name.now (c.in-Some.ensures v.image holds)

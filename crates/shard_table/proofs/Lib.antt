@@ -1,0 +1,10 @@
+pub mod Asking
+pub mod Beginning
+pub mod Doing
+pub mod Grounds
+pub mod Preparing
+pub mod Rows
+pub mod CommitSteps
+pub mod Decided
+pub mod Hears
+pub mod Moving

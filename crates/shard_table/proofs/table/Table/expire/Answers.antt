@@ -1,0 +1,12 @@
+use Rattle.shard_machine.specs.declared.call.ShardCall.TheVariants as call
+use Rattle.shard_table.proofs.Grounds.{turned-down}
+use Rattle.shard_table.proofs.table.Table.expire.Goals as goal
+
+pub write-requires : goal.write-requires
+write-requires c = let (v, held) = c.requires in (v, call.Expire c.args.name.now c.args.now, held, c.in-Ok.ensures v held.streams)
+
+pub returns-in-Ok : goal.returns-in-Ok
+returns-in-Ok c = λ v held. c.write.ensures v (call.Expire c.args.name.now c.args.now) held (c.in-Ok.ensures v held.streams)
+
+pub returns-in-Err : goal.returns-in-Err
+returns-in-Err c = λ v held. (turned-down v (call.Expire c.args.name.now c.args.now) c.in-Err.why (c.in-Err.ensures v held.streams), held)

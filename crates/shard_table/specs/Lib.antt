@@ -1,0 +1,4 @@
+pub mod Answering
+pub mod Effects
+pub mod Hearing
+pub mod Holding

@@ -1,17 +1,16 @@
 -- Places under names, streams that are made in them, and streams that go.
-use Rattle.std.proofs.Common.{◌≡◌, ℕ, suc, ◌+◌, ◌<◌, ◌≤◌, ◌^◌, Bool, true, false, cond, List, [], Option, None, Some, is_some, IsSome, refl, sym, ap, ◌∙◌, subst, arith}
+use Rattle.std.proofs.Common.{◌≡◌, ℕ, suc, ◌+◌, ◌<◌, ◌^◌, Bool, true, false, cond, List, [], Option, None, Some, is_some, IsSome, refl, sym, ap, ◌∙◌, subst, arith}
 use Rattle.std.specs.Prelude.{option_map, OnOk, Result}
 use Rattle.std.specs.BTreeMap.{BTreeMap}
 use Rattle.std.specs.Global.{Vec}
 use Rattle.std.proofs.lemmas.Result.{on_ok_weaker}
 use Rattle.std.specs.FinMap.{get}
 use Rattle.std.specs.Cmp.Lexicographic.{bytes_decides}
-use Rattle.std.specs.Str.{bytes_eq}
 use Rattle.stream_fold.specs.declared.config.Config.{Config}
 use Rattle.stream_fold.specs.declared.entry.Entry.{Entry}
 use Rattle.stream_fold.specs.Checking.{config_fault}
 use Rattle.stream_fold.specs.Facts.{facts_after}
-use Rattle.stream_fold.specs.Held.{State, StandsFor}
+use Rattle.stream_fold.specs.Held.{StandsFor}
 use Rattle.stream_fold.proofs.FactLemmas.{at_text}
 use Rattle.record_codec.specs.declared.records.Rec.TheVariants.{Boot, Create, Remove, Of}
 use Rattle.log_replay.specs.declared.replay.Known.{Known}
@@ -19,8 +18,8 @@ use Rattle.log_replay.specs.declared.replay.Replay.{Replay}
 use Rattle.log_replay.specs.declared.replay.Standing.{Standing}
 use Rattle.log_replay.specs.Replays.{found}
 use Rattle.log_replay.proofs.MapSteps.{Puts}
-use Rattle.shard_machine.specs.Images.{LogImage, MayChangeIn, MayFollowImage, MayMakeIn, NameFacts, Names, changed, count_of, entered, if_stands, incarnation_in, just_made, live_in, next, removed}
-use Rattle.shard_streams.specs.HeldImages.{HoldsImage, HoldsName, HoldsStream, IsStreamOf}
+use Rattle.shard_machine.specs.Images.{LogImage, MayChangeIn, MayFollowImage, NameFacts, Names, changed, count_of, entered, if_stands, just_made, live_in, next, removed}
+use Rattle.shard_streams.specs.HeldImages.{HoldsImage, HoldsName, HoldsStream}
 use Rattle.shard_streams.specs.Places.{HasPlaceFor, IsFree, MayTake}
 use Rattle.shard_streams.proofs.Names.{at_name, changed_here, changed_others, counts_held, falls_known, none_known, same_name, stands_known, with_name}
 

@@ -1,11 +1,9 @@
 -- What is held under a name, and a change of what is held there.
-use Rattle.std.proofs.Common.{◌≡◌, ℕ, ◌+◌, Bool, true, false, cond, if◌then◌else◌, List, Option, None, Some, IsSome, inl, inr, refl, sym, ap, ◌∙◌, subst}
+use Rattle.std.proofs.Common.{◌≡◌, ℕ, Bool, true, false, cond, List, Option, None, Some, refl, sym, ap, ◌∙◌, subst}
 use Rattle.std.specs.Prelude.{option_map}
 use Rattle.std.specs.FinMap.{get}
 use Rattle.std.specs.Cmp.Lexicographic.{bytes_decides}
 use Rattle.std.specs.Str.{bytes_eq}
-use Rattle.std.proofs.lemmas.Bool.{cases_Bool}
-use Rattle.std.proofs.lemmas.Slice.Eq.{bytes_eq-Decides}
 use Rattle.stream_fold.proofs.FactLemmas.{at_text}
 use Rattle.log_replay.specs.declared.replay.Known.{Known}
 use Rattle.log_replay.specs.declared.replay.Replay.{Replay}
@@ -13,7 +11,7 @@ use Rattle.log_replay.specs.declared.replay.Standing.{Standing}
 use Rattle.log_replay.specs.Replays.{found}
 use Rattle.log_replay.proofs.MapSteps.{Puts}
 use Rattle.shard_machine.specs.Images.{LogImage, NameFacts, Names, changed, count_of, if_stands, incarnation_in, live_in}
-use Rattle.shard_streams.specs.HeldImages.{HoldsImage, HoldsName, HoldsStream, IsStreamOf, ShowsLive}
+use Rattle.shard_streams.specs.HeldImages.{HoldsImage, HoldsName, IsStreamOf, ShowsLive}
 
 -- ---- what is held of a name
 

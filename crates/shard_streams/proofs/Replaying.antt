@@ -7,7 +7,7 @@ use Rattle.stream_fold.specs.declared.config.Config.{Config}
 use Rattle.stream_fold.specs.declared.entry.Entry.{Entry}
 use Rattle.stream_fold.specs.declared.entry.Entry.TheVariants.{Put, Del, Purge, Expire, Bind, Limits}
 use Rattle.stream_fold.specs.Checking.{config_fault}
-use Rattle.stream_fold.specs.Facts.{StreamFacts, facts}
+use Rattle.stream_fold.specs.Facts.{facts}
 use Rattle.stream_fold.specs.Histories.{History, Folded, limits_after, stands, with_entry}
 use Rattle.stream_fold.proofs.Folds.{stands-push}
 use Rattle.record_codec.specs.declared.records.Rec.{Rec}

@@ -1,15 +1,15 @@
 -- A stream that takes an entry.
-use Rattle.std.proofs.Common.{◌≡◌, ℕ, ◌+◌, ◌<◌, ◌≤◌, ◌^◌, Bool, true, cond, List, [], ◌∷◌, ◌++◌, length, Option, None, Some, refl, sym, ap, ◌∙◌, subst, arith, append_assoc, append-nil}
-use Rattle.std.specs.Prelude.{◌-◌, ⊤, count_by, max}
+use Rattle.std.proofs.Common.{◌≡◌, ℕ, ◌+◌, ◌≤◌, Bool, cond, List, [], ◌∷◌, ◌++◌, length, Option, None, Some, refl, sym, ap, ◌∙◌, subst, arith, append_assoc, append-nil}
+use Rattle.std.specs.Prelude.{◌-◌, count_by}
 use Rattle.stream_fold.specs.declared.config.Config.{Config}
 use Rattle.stream_fold.specs.declared.entry.Entry.{Entry}
 use Rattle.stream_fold.specs.declared.entry.Entry.TheVariants.{Put, Del, Purge, Expire, Bind, Limits}
 use Rattle.stream_fold.specs.declared.entry.Numbered.{Numbered}
 use Rattle.stream_fold.specs.Checking.{config_fault}
-use Rattle.stream_fold.specs.Facts.{FitsFacts, StreamFacts, facts, facts_after}
+use Rattle.stream_fold.specs.Facts.{FitsFacts, StreamFacts, facts_after}
 use Rattle.stream_fold.specs.Fits.{AllFit, FitAfter, Fits}
 use Rattle.stream_fold.specs.Held.{StandsFor}
-use Rattle.stream_fold.specs.Histories.{Folded, History, IsAbove, RiseFrom, NumbersRise, changed_rows, kept, last, limited, limits_after, rows_after, stands, with_entry}
+use Rattle.stream_fold.specs.Histories.{Folded, History, IsAbove, RiseFrom, NumbersRise, changed_rows, kept, last, limited, limits_after, stands, with_entry}
 use Rattle.stream_fold.specs.RowLists.{EachRow, Rises, seqs}
 use Rattle.stream_fold.proofs.FactLemmas.{facts-push, facts-tell, tell-fits}
 use Rattle.stream_fold.proofs.Folds.{last-push, stands-push}
@@ -20,7 +20,7 @@ use Rattle.shard_machine.specs.Views.{count_gone}
 use Rattle.shard_streams.specs.HeldImages.{IsStreamOf}
 use Rattle.shard_streams.specs.Places.{stored_number}
 use Rattle.shard_streams.proofs.Counting.{IsPart, count-added, count-part, ends-limited, is_gone, part-filter, part-limited, part-refl, part-trans, rises-push}
-use Rattle.shard_streams.proofs.Replaying.{IsFaultless, faultless-entry}
+use Rattle.shard_streams.proofs.Replaying.{faultless-entry}
 
 -- ---- histories that fit
 

@@ -1,13 +1,11 @@
 -- What was prepared, by its record, and what the taps are told of it.
-use Rattle.std.proofs.Common.{◌≡◌, ℕ, List, [], ◌++◌, Option, None, Some, refl, sym, ap, ◌∙◌, subst}
+use Rattle.std.proofs.Common.{◌≡◌, ℕ, List, [], ◌++◌, Option, refl, sym, ap, ◌∙◌, subst}
 use Rattle.stream_fold.specs.declared.config.Config.{Config}
 use Rattle.stream_fold.specs.declared.entry.Entry.{Entry}
 use Rattle.stream_fold.specs.Held.{StandsFor}
 use Rattle.stream_fold.specs.declared.entry.Entry.TheVariants.{Put, Del, Purge, Expire, Bind, Limits}
 use Rattle.tap_row.specs.declared.notice.Notice.{Notice}
-use Rattle.record_codec.specs.declared.records.Rec.{Rec}
 use Rattle.record_codec.specs.declared.records.Rec.TheVariants.{Create, Of}
-use Rattle.log_replay.specs.declared.replay.Known.{Known}
 use Rattle.log_replay.specs.declared.replay.Replay.{Replay}
 use Rattle.log_replay.specs.Replays.{found}
 use Rattle.shard_machine.specs.Views.{removed_notice, stored_notice}

@@ -1,7 +1,5 @@
-use Rattle.std.proofs.Common.{◌≡◌, ℕ, List, Some, refl, sym, ap, ◌∙◌, subst}
-use Rattle.stream_fold.specs.declared.entry.Entry.{Entry}
+use Rattle.std.proofs.Common.{◌≡◌, Some, sym, ap, ◌∙◌, subst}
 use Rattle.record_codec.specs.declared.records.Rec.{Rec}
-use Rattle.record_codec.specs.declared.records.Rec.TheVariants.{Of}
 use Rattle.shard_machine.specs.Images.{MayFollowImage, live_in, next}
 use Rattle.shard_machine.specs.Views.{count_gone}
 use Rattle.shard_streams.specs.HeldImages.{HoldsImage}

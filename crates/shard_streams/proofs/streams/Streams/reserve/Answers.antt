@@ -1,4 +1,4 @@
-use Rattle.std.proofs.Common.{◌≡◌, refl, sym, ap, None, Some}
+use Rattle.std.proofs.Common.{◌≡◌, refl, sym, ap, Some}
 use Rattle.log_replay.specs.Replays.{found}
 use Rattle.log_replay.proofs.MapSteps.{writes}
 use Rattle.shard_streams.proofs.Making.{found_same, keep_holds, takes_place}

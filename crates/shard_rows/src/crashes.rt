@@ -73,13 +73,13 @@ fn held_after(alloc: Global, count: usize) -> Result<String, Fail> {
 
 /// How many of the calls a shard answers before a disk fails.
 fn answered(alloc: Global, shard: &mut Shard<MemDisk>) -> Result<usize, Fail> {
-    let mut count = 0;
+    let mut count = 0_usize;
     for row in &pieces(alloc, CALLS, b'\n')? {
         let answer = answer_to(alloc, shard, row, 7)?;
         if answer.as_bytes() == b"DiskFault".as_slice() {
             break;
         }
-        count += 1;
+        count = count.saturating_add(1);
     }
     Ok(count)
 }
@@ -94,11 +94,15 @@ fn survives(alloc: Global, call: u64, fate: Fate, after: &[String]) -> Result<bo
     main.after_crash();
     spare.after_crash();
     let found = kept(alloc, main, spare)?;
-    let is_one = |at: usize| match after.get(at) {
-        Some(text) => *text == found,
+    Ok(is_one(after, count, &found) || is_one(after, count.saturating_add(1), &found))
+}
+
+/// Whether this is what is held once so many calls were answered.
+fn is_one(after: &[String], count: usize, found: &String) -> bool {
+    match after.get(count) {
+        Some(text) => text.as_bytes() == found.as_bytes(),
         None => false,
-    };
-    Ok(is_one(count) || is_one(count.saturating_add(1)))
+    }
 }
 
 #[test]

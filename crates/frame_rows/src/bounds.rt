@@ -16,13 +16,17 @@ fn padded(alloc: Global, front: &str, count: usize, back: &str) -> Result<Vec<u8
     Ok(whole)
 }
 
-/// How a stream ends whose bytes are such a text, and whether it gave a frame.
+/// Two frames of each side.
+const BEFORE: &[u8] = b"PING\r\nPONG\r\n";
+
+/// How a stream ends whose bytes are those frames and such a text, and whether it gave a frame of the text.
 fn ends(alloc: Global, side: Side, bytes: &[u8]) -> Result<(Option<Refused>, bool), NoMemory> {
     let mut feed = Feed::new(alloc, side);
     let mut found = Vec::new(alloc);
+    feed.feed(BEFORE)?;
     feed.feed(bytes)?;
     let end = take(&mut feed, &mut found)?;
-    Ok((end, !found.is_empty()))
+    Ok((end, found.len() > BEFORE.len()))
 }
 
 /// Who sends it, what stands before and behind so many bytes `x` in the stream, and whether it is a frame,
@@ -47,8 +51,8 @@ const ROWS: [(Side, &str, usize, &str, Result<bool, FrameText>); 32] = [
     (FromClient, "SUB a ", 101, "\r\n", Err(ParserError)),
     (FromClient, "SUB a ", 100, " 1\r\n", Ok(true)),
     (FromClient, "SUB a ", 101, " 1\r\n", Err(ParserError)),
-    (FromClient, "UNSUB ", 101, "\r\n", Err(ParserError)),
     (FromClient, "UNSUB ", 100, "\r\n", Ok(true)),
+    (FromClient, "UNSUB ", 101, "\r\n", Err(ParserError)),
     (FromServer, "MSG a ", 100, " 0\r\n\r\n", Ok(true)),
     (FromServer, "MSG a ", 101, " 0\r\n", Err(ParserError)),
     // A subject has at most 1,024 bytes.
@@ -150,7 +154,7 @@ fn each_bound_is_kept(rt: HostRuntime) -> Result<(), Fail> {
                 && end
                     == Refused {
                         text: *text,
-                        place: 0,
+                        place: 12,
                     },
             _ => false,
         };

@@ -1,0 +1,5 @@
+pub mod Orders
+pub mod Lists
+pub mod Targets
+pub mod Tellings
+pub mod Changes

@@ -1,5 +1,5 @@
 -- What a change makes of the list of subscriptions, and where it is refused.
-use Rattle.std.specs.Prelude.{◌≡◌, ℕ, ◌==◌, Bool, true, false, ◌&&◌, ◌||◌, not, nat_lt, nat_le, List, [], ◌∷◌, ◌++◌, Option, Some, None, Result, Ok, Err, filter, map, if◌then◌else◌, ⊤, MatchResult}
+use Rattle.std.specs.Prelude.{◌≡◌, ◌⊎◌, ℕ, ◌==◌, Bool, true, false, ◌&&◌, ◌||◌, not, nat_lt, nat_le, List, [], ◌∷◌, ◌++◌, Option, Some, None, Result, Ok, Err, filter, map, if◌then◌else◌, ⊤, MatchResult}
 use Rattle.std.specs.List.{list_any}
 use Rattle.leaf_frames.specs.declared.frame.LeafFrame.{LeafFrame}
 use Rattle.interest_list.specs.declared.subscription.Holder.TheVariants.{Client, Link, Inner}
@@ -100,6 +100,10 @@ after change it = record { subs = changed change it.subs; told_to = told_after c
 abbrev pub Answers : {T : Type 0} → Option InterestFault → Result T InterestFault → Type 0
 Answers (Some fault) result = result ≡ Err fault
 Answers None result = MatchResult result (λ _. ⊤) (λ fault. fault ≡ NoMemory)
+
+-- an Ok comes only where there is no refusal, and what is answered else is the refusal, or want of memory
+abbrev pub MayAnswer : {T : Type 0} → Option InterestFault → Result T InterestFault → Type 0
+MayAnswer refused result = MatchResult result (λ _. refused ≡ None) (λ fault. (fault ≡ NoMemory) ⊎ (refused ≡ Some fault))
 
 -- the whole after these changes, the first first
 abbrev pub after_all : List Change → Interests → Interests

@@ -5,7 +5,7 @@ ghost use Rattle.subject_transform.specs.Domains.{crosses};
 ghost use Rattle.interest_list.specs.Lists.{no_interest};
 ghost use Rattle.interest_list.specs.Targets.{targets};
 ghost use Rattle.interest_list.specs.Tellings.{told, news, informed};
-ghost use Rattle.interest_list.specs.Changes.{Answers, refusal, after, is_weight, has_weight, first_refusal, after_all, all_news, all_informed};
+ghost use Rattle.interest_list.specs.Changes.{Answers, MayAnswer, refusal, after, is_weight, has_weight, first_refusal, after_all, all_news, all_informed};
 ghost use Rattle.interest_list.specs.declared.change.Change.TheVariants.{Add as Adds, Remove as Removes, LinkOn as LinksOn, LinkOff as LinksOff, InnerOn as InnersOn, InnerOff as InnersOff, DropConn as DropsConn};
 
 use crate::{
@@ -182,7 +182,7 @@ impl InterestList {
 
     /// Makes these changes, one after another, and adds behind `first` the frames that tell each of these links
     /// what has changed since it was told last, link by link. The answer is the refusal of the first change
-    /// that is refused. After any refusal nothing has changed, nobody was told anything, and `first` is let
+    /// that is refused, or want of memory. After any refusal nothing has changed, nobody was told anything, and `first` is let
     /// go.
     pub fn change<P: Carrier>(
         &mut self,
@@ -191,13 +191,13 @@ impl InterestList {
         first: List<P>,
     ) -> Result<List<P>, InterestFault>
         requires { IsTrue (list_all has_weight changes) }
-        ensures answer { Answers (first_refusal changes self.old.subs) result }
+        ensures answer { MayAnswer (first_refusal changes self.old.subs) result }
         ensures frames { IfOk result (λ it. it ≡ first ++ all_news P.carried links.now (after_all changes self.old)) }
         ensures ok { OnOk result (self.new ≡ all_informed links.now (after_all changes self.old)) }
         ensures err { OnErr result (self.new ≡ self.old) }
     {
-        let mut subs = self.subs.clone()?;
-        let mut told_to = self.told_to.clone()?;
+        let mut subs = kept::copied_list(&self.subs)?;
+        let mut told_to = kept::copied_told(self.alloc, &self.told_to)?;
         kept::make(&mut subs, &mut told_to, changes)?;
         let frames = tellings::inform_all(
             self.alloc,

@@ -3,12 +3,13 @@ ghost use Rattle.std.specs.Prelude.{◌≡◌, ◌<◌, ◌≤◌, None, Some, O
 ghost use Rattle.std.specs.List.{list_any};
 ghost use Rattle.std.specs.Option.{option_copied};
 ghost use Rattle.interest_list.specs.Lists.{is_of_client, is_of_link, is_of_node, is_of, is_client, is_link, is_inner, is_on, is_full, same_queue};
-ghost use Rattle.interest_list.specs.Changes.{with_sub, without, too_many, if_new, if_there, refusal, changed, told_after, forgotten, Answers, of_client, of_link, of_node, first_refusal, after_all};
+ghost use Rattle.interest_list.specs.Changes.{with_sub, without, too_many, if_new, if_there, refusal, changed, told_after, forgotten, Answers, of_client, of_link, of_node, first_refusal, after_all, MayAnswer};
 ghost use Rattle.interest_list.specs.declared.change.Change.TheVariants.{Add as Adds, Remove as Removes, LinkOn as LinksOn, LinkOff as LinksOff, InnerOn as InnersOn, InnerOff as InnersOff};
 
 use crate::order::place;
-use crate::{Change, Holder, InterestFault, Subscription, ToldTo};
-use nats_text::{Bytes, List, Pattern};
+use crate::{Change, Holder, InterestFault, Subscription, Told, ToldTo};
+use nats_text::{Bytes, List, NoMemory, Pattern};
+use std::alloc::Global;
 
 /// The most subscriptions that a node has.
 const MAX_SUBSCRIPTIONS: usize = 65_536;
@@ -143,6 +144,57 @@ pub fn forget(told_to: &mut Vec<ToldTo>, conn: u64)
     told_to.retain(|to| to.link != conn);
 }
 
+/// A copy of a subscription.
+pub fn copied(sub: &Subscription) -> Result<Subscription, NoMemory>
+    ensures { IfOk result (λ it. it ≡ sub.now) }
+{
+    Ok(sub.clone()?)
+}
+
+/// A copy of a list of subscriptions.
+pub fn copied_list(subs: &Vec<Subscription>) -> Result<Vec<Subscription>, NoMemory>
+    ensures { IfOk result (λ it. it.items ≡ subs.now.items) }
+{
+    Ok(subs.clone()?)
+}
+
+/// A copy of what was told to links.
+pub fn copied_told(alloc: Global, told_to: &[ToldTo]) -> Result<Vec<ToldTo>, NoMemory>
+    ensures { IfOk result (λ it. it.items ≡ told_to.now) }
+{
+    let mut all = Vec::new(alloc);
+    for to in told_to {
+        all.push(ToldTo {
+            link: to.link,
+            told: copied_pairs(alloc, to.told.as_slice())?,
+        })?;
+    }
+    Ok(all)
+}
+
+fn copied_pairs(alloc: Global, told: &[Told]) -> Result<List<Told>, NoMemory>
+    ensures { IfOk result (λ it. it ≡ told.now) }
+{
+    let mut all = Vec::new(alloc);
+    for pair in told {
+        all.push(copied_pair(pair)?)?;
+    }
+    Ok(List::from_vec(all))
+}
+
+fn copied_pair(pair: &Told) -> Result<Told, NoMemory>
+    ensures { IfOk result (λ it. it ≡ pair.now) }
+{
+    Ok(pair.clone()?)
+}
+
+/// A copy of bytes.
+pub fn copied_text(text: &Bytes) -> Result<Bytes, NoMemory>
+    ensures { IfOk result (λ it. it ≡ text.now) }
+{
+    Ok(text.clone()?)
+}
+
 /// The bytes of a queue.
 pub fn queue_bytes(queue: &Option<Bytes>) -> Option<&[u8]>
     ensures { option_copied result ≡ queue.now }
@@ -247,11 +299,14 @@ pub fn make(
     told_to: &mut Vec<ToldTo>,
     changes: List<Change>,
 ) -> Result<(), InterestFault>
-    ensures answer { Answers (first_refusal changes subs.old.items) result }
+    ensures answer { MayAnswer (first_refusal changes subs.old.items) result }
     ensures ok { OnOk result (record { subs = subs.new.items; told_to = told_to.new.items } ≡ after_all changes (record { subs = subs.old.items; told_to = told_to.old.items })) }
 {
     for change in changes.into_vec() {
-        make_one(subs, told_to, change)?;
+        let made = make_one(subs, told_to, change);
+        if made.is_err() {
+            return made;
+        }
     }
     Ok(())
 }

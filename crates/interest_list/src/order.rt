@@ -1,9 +1,7 @@
 //! Vectors that stand in an order.
-ghost use Rattle.std.specs.Prelude.{◌≡◌, OnOk, OnErr, List as Items};
-ghost use Rattle.std.specs.Option.{option_copied};
-ghost use Rattle.std.specs.Ordering.{nat_cmp};
+ghost use Rattle.std.specs.Prelude.{◌≡◌, ◌<◌, ◌≤◌, length, set, insert, OnOk, OnErr, MatchResult};
 ghost use Rattle.interest_list.specs.Orders.{text_cmp, queue_cmp, placed};
-ghost use Rattle.interest_list.specs.Lists.{holder_cmp, pair_cmp, subscription_cmp, told_cmp, link_cmp, same_queue};
+ghost use Rattle.interest_list.specs.Lists.{holder_cmp, pair_cmp};
 
 use crate::{Holder, Subscription, Told, ToldTo};
 use nats_text::{Bytes, NoMemory, Pattern};
@@ -127,17 +125,26 @@ pub fn place<T: Placed>(items: &mut Vec<T>, item: T) -> Result<(), NoMemory>
     ensures ok { OnOk result (items.new.items ≡ placed T.order item items.old.items) }
     ensures err { OnErr result (items.new.items ≡ items.old.items) }
 {
-    let mut at = 0;
-    while at < items.len() {
+    match place_of(items, &item) {
+        Ok(at) => items[at] = item,
+        Err(at) => items.insert(at, item)?,
+    }
+    Ok(())
+}
+
+// The place of an item: `Ok` where one that is equal stands there, and else `Err`.
+fn place_of<T: Placed>(items: &[T], item: &T) -> Result<usize, usize>
+    ensures within { MatchResult result (λ at. at < length items.now) (λ at. at ≤ length items.now) }
+    ensures placed { MatchResult result
+        (λ at. placed T.order item.now items.now ≡ set items.now at item.now)
+        (λ at. placed T.order item.now items.now ≡ insert items.now at item.now) }
+{
+    for at in 0..items.len() {
         match item.order(&items[at]) {
-            Ordering::Less => break,
-            Ordering::Equal => {
-                items[at] = item;
-                return Ok(());
-            }
-            Ordering::Greater => at += 1,
+            Ordering::Less => return Err(at),
+            Ordering::Equal => return Ok(at),
+            Ordering::Greater => {}
         }
     }
-    items.insert(at, item)?;
-    Ok(())
+    Err(items.len())
 }

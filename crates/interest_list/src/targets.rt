@@ -2,11 +2,12 @@
 ghost use Rattle.std.specs.Prelude.{◌≡◌, ◌<◌, ◌∷◌, [], ◌++◌, ◌%◌, filter, map, IfOk, OnOk, OnErr};
 ghost use Rattle.std.specs.List.{list_any, filter_map};
 ghost use Rattle.std.specs.Option.{option_copied};
+ghost use Rattle.std.specs.Str.{bytes_eq};
 ghost use Rattle.interest_list.specs.Orders.{text_cmp, in_order};
 ghost use Rattle.interest_list.specs.Lists.{is_link, is_inner};
 ghost use Rattle.interest_list.specs.Targets.{is_muted, came_by, may_get, is_live, is_plain, is_member, members, weights, at_weight, chosen, groups, is_served, served, client_target, link_of, link_target, links, inner_target, holders};
 
-use crate::kept::{is_inner, is_link};
+use crate::kept::{copied, copied_text, is_inner, is_link};
 use crate::order::place;
 use crate::{CameFrom, Holder, Subscription, Target};
 use nats_text::{Bytes, List, NoMemory, Subject, matches};
@@ -26,7 +27,7 @@ pub fn live(
     let mut found = Vec::new(alloc);
     for sub in subs {
         if is_live(sub, subject, outward, from) {
-            found.push(sub.clone()?)?;
+            found.push(copied(sub)?)?;
         }
     }
     Ok(found)
@@ -88,7 +89,7 @@ fn plain(alloc: Global, live: &[Subscription]) -> Result<Vec<Subscription>, NoMe
     let mut found = Vec::new(alloc);
     for sub in live {
         if sub.queue.is_none() {
-            found.push(sub.clone()?)?;
+            found.push(copied(sub)?)?;
         }
     }
     Ok(found)
@@ -122,7 +123,7 @@ fn add_member(
     ensures { OnOk result (found.new.items ≡ found.old.items ++ filter_map (chosen pick live.now) (queue.now ∷ [])) }
 {
     if let Some(member) = chosen(live, queue, pick) {
-        found.push(member.clone()?)?;
+        found.push(copied(member)?)?;
     }
     Ok(())
 }
@@ -132,11 +133,20 @@ fn is_served(given: Option<&List<Bytes>>, queue: &Bytes) -> bool
 {
     match given {
         None => true,
-        Some(queues) => queues
-            .as_slice()
-            .iter()
-            .any(|group| group.as_slice() == queue.as_slice()),
+        Some(queues) => has_text(queues.as_slice(), queue),
     }
+}
+
+fn has_text(groups: &[Bytes], queue: &Bytes) -> bool
+    ensures { result ≡ list_any (λ g. bytes_eq g queue.now) groups.now }
+{
+    groups.iter().any(|group| same_text(group, queue))
+}
+
+fn same_text(group: &Bytes, queue: &Bytes) -> bool
+    ensures { result ≡ bytes_eq group.now queue.now }
+{
+    group.as_slice() == queue.as_slice()
 }
 
 // The member of a group that gets the message.
@@ -185,7 +195,7 @@ fn is_member(sub: &Subscription, queue: &Bytes) -> bool
 {
     match &sub.queue {
         None => false,
-        Some(group) => group.as_slice() == queue.as_slice(),
+        Some(group) => same_text(group, queue),
     }
 }
 
@@ -196,7 +206,7 @@ fn groups(alloc: Global, subs: &[Subscription]) -> Result<Vec<Bytes>, NoMemory>
     let mut found = Vec::new(alloc);
     for sub in subs {
         if let Some(queue) = &sub.queue {
-            place(&mut found, queue.clone()?)?;
+            place(&mut found, copied_text(queue)?)?;
         }
     }
     Ok(found)
@@ -210,10 +220,24 @@ pub fn holders(alloc: Global, served: &[Subscription]) -> Result<List<Target>, N
     let mut found = clients(alloc, served)?;
     let links = links(alloc, served)?;
     add_links(&mut found, served, links.as_slice())?;
-    if served.iter().any(|sub| is_inner(&sub.holder)) {
+    add_inner(&mut found, served)?;
+    Ok(List::from_vec(found))
+}
+
+// Adds the node itself, where it is among those that get the message.
+fn add_inner(found: &mut Vec<Target>, served: &[Subscription]) -> Result<(), NoMemory>
+    ensures { OnOk result (found.new.items ≡ found.old.items ++ inner_target served.now) }
+{
+    if has_inner(served) {
         found.push(Target::Inner)?;
     }
-    Ok(List::from_vec(found))
+    Ok(())
+}
+
+fn has_inner(served: &[Subscription]) -> bool
+    ensures { result ≡ list_any (λ s. is_inner s.holder) served.now }
+{
+    served.iter().any(|sub| is_inner(&sub.holder))
 }
 
 fn clients(alloc: Global, served: &[Subscription]) -> Result<Vec<Target>, NoMemory>
@@ -233,7 +257,7 @@ fn client_target(conn: u64, sid: &Bytes) -> Result<Target, NoMemory>
 {
     Ok(Target::Client {
         conn,
-        sid: sid.clone()?,
+        sid: copied_text(sid)?,
     })
 }
 
@@ -280,7 +304,7 @@ fn of_link(alloc: Global, served: &[Subscription], conn: u64) -> Result<Vec<Subs
     let mut found = Vec::new(alloc);
     for sub in served {
         if is_link(&sub.holder, conn) {
-            found.push(sub.clone()?)?;
+            found.push(copied(sub)?)?;
         }
     }
     Ok(found)

@@ -7,7 +7,7 @@ ghost use Rattle.interest_list.specs.Orders.{placed, in_order};
 ghost use Rattle.interest_list.specs.Tellings.{is_told, of_others, is_same_pair, group_weight, told_weight, telling, told, same_pair, same_told, has_pair, has_told, frame_on, frame_off, changes, told_before};
 ghost use Rattle.interest_list.specs.Changes.{all_news, all_informed};
 
-use crate::kept::{is_link, queue_bytes, same_queue};
+use crate::kept::{copied, is_link, queue_bytes, same_queue};
 use crate::order::place;
 use crate::{Carrier, Subscription, Told, ToldTo};
 use leaf_frames::LeafFrame;
@@ -42,7 +42,7 @@ fn of_others(
     let mut found = Vec::new(alloc);
     for sub in subs {
         if domain.crosses(&sub.pattern) && !is_link(&sub.holder, link) {
-            found.push(sub.clone()?)?;
+            found.push(copied(sub)?)?;
         }
     }
     Ok(found)

@@ -1,0 +1,6 @@
+//! The frames of a leaf link (NATS leaf nodes): what they are.
+#![tactic(auto)]
+
+mod frame;
+
+pub use frame::LeafFrame;

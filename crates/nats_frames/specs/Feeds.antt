@@ -61,7 +61,12 @@ Gives first old (Ok answer) new = (Ok answer ≡ next_told old old.refused (firs
 Gives first old (Err (IsRefused refused)) new = (Err (IsRefused refused) ≡ next_told old old.refused (first old.rest)) × (new ≡ next_left old old.refused (first old.rest))
 Gives first old (Err NoMemory) new = new ≡ old
 
--- ---- for private clauses: what a feed knows of its rest
+-- ---- for clauses of what a feed holds
+
+-- a stream of any kind of connection, and the count of bytes with fewer than which nothing can be told
+pub record Held : Type 0 where
+  pub pending : Pending
+  pub wanted : ℕ
 
 -- more bytes are wanted
 abbrev pub is_more : {F : Type 0} → First F → Bool
@@ -73,8 +78,19 @@ is_more (Refuse text) = false
 abbrev pub Waits : {F : Type 0} → (List ℕ → First F) → List ℕ → ℕ → Type 0
 Waits first rest wanted = (behind : List ℕ) → length (rest ++ behind) < wanted → is_more (first (rest ++ behind)) ≡ true
 
--- no line ends within what was looked at, and more bytes are wanted until there are enough
-pub record Knows {F : Type 0} (first : List ℕ → First F) (rest : List ℕ) (looked wanted : ℕ) : Type 0 where
+-- how many bytes are wanted after an answer: none but where more are wanted
+abbrev pub wanted_of : {F : Type 0} → First F → ℕ
+wanted_of (Frame frame len) = 0
+wanted_of (More wanted) = wanted
+wanted_of (Refuse text) = 0
+
+-- a frame has one byte at least, and is within so many bytes
+abbrev pub IsWithin : {F : Type 0} → ℕ → First F → Type 0
+IsWithin n (Frame frame len) = (0 < len) × (len ≤ n)
+IsWithin n (More wanted) = Unit {0}
+IsWithin n (Refuse text) = Unit {0}
+
+-- no line ends within what was looked at
+pub record IsLooked (rest : List ℕ) (looked : ℕ) : Type 0 where
   pub within : looked ≤ length rest
   pub none : IsTrue (has_no_feed (take looked rest))
-  pub waits : Waits first rest wanted

@@ -1,0 +1,5 @@
+pub mod Frames
+pub mod Json
+pub mod Kinds
+pub mod Laws
+pub mod Texts

@@ -5,6 +5,7 @@ mod Deliveries
 pub mod Ends
 pub mod Feeds
 mod Firsts
+pub mod Givings
 pub mod JsonFrames
 pub mod Jsons
 mod Looks

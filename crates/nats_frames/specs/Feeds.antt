@@ -55,11 +55,12 @@ abbrev pub next_left : {F : Type 0} → Pending → Option Refused → First F �
 next_left pending None first = left_of pending first
 next_left pending (Some refused) first = pending
 
--- the answer is what comes next, and leaves what that leaves; without memory nothing changes
+-- the answer is what comes next, and leaves what that leaves; without memory nothing changes, which a
+-- stream that is refused never answers
 abbrev pub Gives : {F : Type 0} → (List ℕ → First F) → Pending → Result (Option F) FeedFault → Pending → Type 0
 Gives first old (Ok answer) new = (Ok answer ≡ next_told old old.refused (first old.rest)) × (new ≡ next_left old old.refused (first old.rest))
 Gives first old (Err (IsRefused refused)) new = (Err (IsRefused refused) ≡ next_told old old.refused (first old.rest)) × (new ≡ next_left old old.refused (first old.rest))
-Gives first old (Err NoMemory) new = new ≡ old
+Gives first old (Err NoMemory) new = (new ≡ old) × (old.refused ≡ None)
 
 -- ---- for clauses of what a feed holds
 

@@ -1,8 +1,11 @@
-ghost use Rattle.std.specs.Prelude.{◌≡◌, ◌<◌, length, IfOk, OnOk, OnErr, OnSome};
+ghost use Rattle.std.specs.Prelude.{◌≡◌, ◌<◌, None, length, IfOk, IfSome, OnOk, OnErr, OnSome};
 ghost use Rattle.nats_frames.specs.Feeds.{nothing_yet, fed, Gives};
 ghost use Rattle.nats_frames.specs.Frames.{first};
+ghost use Rattle.nats_frames.specs.Kinds.{IsOf};
+ghost use Rattle.nats_frames.specs.Texts.{HasTexts};
 
 use crate::intake::Intake;
+use crate::laws::written_frames;
 use crate::{ClientFrame, FeedFault, Side};
 use nats_text::NoMemory;
 use std::alloc::Global;
@@ -40,12 +43,13 @@ impl Feed {
         }
     }
 
-    /// Takes the next piece of the stream. A feed that is refused lets it go. Without memory nothing
-    /// changes.
+    /// Takes the next piece of the stream. A feed that is refused lets it go, and needs no memory for it.
+    /// Without memory nothing changes.
     pub fn feed(&mut self, piece: &[u8]) -> Result<(), NoMemory>
         ensures side { self.new.side ≡ self.old.side }
         ensures ok { OnOk result (self.new.pending ≡ fed self.old.pending piece.now) }
         ensures err { OnErr result (self.new.pending ≡ self.old.pending) }
+        ensures standing { OnErr result (self.old.pending.refused ≡ None) }
     {
         self.intake.feed(piece)
     }
@@ -54,14 +58,21 @@ impl Feed {
     /// a frame.
     ///
     /// `Refused` comes exactly where it is none, with the count of the bytes before it, and from then on at
-    /// each call. Without memory nothing changes, and the call may be made again.
+    /// each call. Without memory nothing changes, and the call may be made again: a feed that is refused
+    /// needs none.
     pub fn next(&mut self) -> Result<Option<ClientFrame>, FeedFault>
         ensures side { self.new.side ≡ self.old.side }
         ensures gives { Gives (first self.old.side) self.old.pending result self.new.pending }
 
         // Each frame is taken from the rest.
         ensures shorter { IfOk result (λ it. OnSome it (length self.new.pending.rest < length self.old.pending.rest)) }
+
+        // Each frame is one that this side may send, and can be written.
+        ensures kind { IfOk result (λ it. IfSome it (λ frame. IsOf self.old.side frame)) }
+        ensures texts { IfOk result (λ it. IfSome it (λ frame. HasTexts frame)) }
     {
+        // The law that a reading gives frames of its side alone.
+        written_frames();
         self.intake.next(&self.side)
     }
 }

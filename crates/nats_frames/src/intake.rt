@@ -51,11 +51,13 @@ impl Intake {
         }
     }
 
-    /// Takes the next piece of the stream. One that is refused lets it go. Without memory nothing changes.
+    /// Takes the next piece of the stream. One that is refused lets it go, and needs no memory for it.
+    /// Without memory nothing changes.
     pub fn feed(&mut self, piece: &[u8]) -> Result<(), NoMemory>
         ensures wanted { self.new.wanted ≡ self.old.wanted }
         ensures ok { OnOk result (self.new.pending ≡ fed self.old.pending piece.now) }
         ensures err { OnErr result (self.new.pending ≡ self.old.pending) }
+        ensures standing { OnErr result (self.old.pending.refused ≡ None) }
     {
         match self.refused() {
             Some(_) => Ok(()),

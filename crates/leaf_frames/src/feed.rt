@@ -1,8 +1,10 @@
-ghost use Rattle.std.specs.Prelude.{◌≡◌, ◌<◌, length, IfOk, OnOk, OnErr, OnSome};
+ghost use Rattle.std.specs.Prelude.{◌≡◌, ◌<◌, None, length, IfOk, IfSome, OnOk, OnErr, OnSome};
 ghost use Rattle.nats_frames.specs.Feeds.{nothing_yet, fed, Gives};
 ghost use Rattle.leaf_frames.specs.Frames.{first};
+ghost use Rattle.leaf_frames.specs.Kinds.{IsLeaf};
 
 use crate::LeafFrame;
+use crate::laws::written_frames;
 use crate::reading::Leaf;
 use nats_frames::FeedFault;
 use nats_frames::shared::Intake;
@@ -40,11 +42,12 @@ impl LeafFeed {
         }
     }
 
-    /// Takes the next piece of the stream. A feed that is refused lets it go. Without memory nothing
-    /// changes.
+    /// Takes the next piece of the stream. A feed that is refused lets it go, and needs no memory for it.
+    /// Without memory nothing changes.
     pub fn feed(&mut self, piece: &[u8]) -> Result<(), NoMemory>
         ensures ok { OnOk result (self.new ≡ fed self.old piece.now) }
         ensures err { OnErr result (self.new ≡ self.old) }
+        ensures standing { OnErr result (self.old.refused ≡ None) }
     {
         self.intake.feed(piece)
     }
@@ -53,13 +56,19 @@ impl LeafFeed {
     /// a frame.
     ///
     /// `Refused` comes exactly where it is none, with the count of the bytes before it, and from then on at
-    /// each call. Without memory nothing changes, and the call may be made again.
+    /// each call. Without memory nothing changes, and the call may be made again: a feed that is refused
+    /// needs none.
     pub fn next(&mut self) -> Result<Option<LeafFrame>, FeedFault>
         ensures gives { Gives first self.old result self.new }
 
         // Each frame is taken from the rest.
         ensures shorter { IfOk result (λ it. OnSome it (length self.new.rest < length self.old.rest)) }
+
+        // Each frame is one of a leaf link.
+        ensures kind { IfOk result (λ it. IfSome it IsLeaf) }
     {
+        // The law that a reading gives frames of leaf links alone.
+        written_frames();
         self.intake.next(&Leaf)
     }
 }

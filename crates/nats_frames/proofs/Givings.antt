@@ -1,5 +1,5 @@
 -- What a reading gives are frames of its side.
-use Rattle.std.proofs.Common.{◌≡◌, ℕ, List, length, Bool, true, ◌&&◌, nat_lt, Option, None, Some, refl, ap}
+use Rattle.std.proofs.Common.{◌≡◌, ℕ, List, length, true, ◌&&◌, nat_lt, Option, None, Some, refl, ap}
 use Rattle.std.specs.Prelude.{Result, Ok, Err, IfOk, IfSome}
 use Rattle.std.specs.List.{list_all}
 use Rattle.std.specs.Option.{option_map_or}

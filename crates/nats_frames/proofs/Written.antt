@@ -1,18 +1,15 @@
 -- Frames that are written are read again.
-use Rattle.std.proofs.Common.{◌≡◌, ℕ, ◌+◌, ◌-◌, ◌<◌, ◌≤◌, ◌^◌, ◌==◌, List, [], ◌∷◌, ◌++◌, length, get_or, take, drop, Bool, true, false, ◌&&◌, cond, nat_lt, Option, None, Some, refl, sym, ap, ◌∙◌, arith, length-append, append_assoc}
-use Rattle.std.specs.Prelude.{Ok, codes, decimal, option_and_then}
+use Rattle.std.proofs.Common.{◌≡◌, ℕ, ◌+◌, ◌<◌, ◌≤◌, List, [], ◌∷◌, ◌++◌, length, Bool, true, false, ◌&&◌, cond, nat_lt, Option, None, Some, refl, sym, ap, ◌∙◌, arith}
+use Rattle.std.specs.Prelude.{codes, decimal, option_and_then}
 use Rattle.std.specs.List.{list_all}
 use Rattle.std.specs.Option.{option_map_or}
-use Rattle.std.specs.Str.{bytes_eq, is_utf8}
-use Rattle.std.proofs.lemmas.Bool.{cond-true, cond-false, and_from, lt-ltb, le-ltb, eq-eqb}
-use Rattle.std.proofs.Math.Seq.{get_or-append_seam, take-append_seam, drop-append_seam, drop-append-add}
-use Rattle.std.proofs.lemmas.List.{take_at, drop_at}
-use Rattle.std.proofs.lemmas.Slice.Eq.{bytes_eq-Decides}
+use Rattle.std.specs.Str.{is_utf8}
+use Rattle.std.proofs.lemmas.Bool.{cond-true, cond-false, and_from, lt-ltb}
 use Rattle.serde_json.specs.Written.{compact_text}
-use Rattle.nats_text.specs.Headers.{HeaderBlock, no_headers, is_header_block, crlf, written, read_block, trim_end}
+use Rattle.nats_text.specs.Headers.{HeaderBlock, no_headers, written, trim_end}
 use Rattle.nats_text.specs.Text.{is_pattern}
 use Rattle.nats_text.specs.declared.message.Parcel.{Parcel}
-use Rattle.nats_frames.specs.declared.fault.FrameText.TheVariants.{ParserError, InvalidSubject, PayloadViolation}
+use Rattle.nats_frames.specs.declared.fault.FrameText.TheVariants.{ParserError, InvalidSubject}
 use Rattle.nats_frames.specs.declared.frame.ServerInfo.{ServerInfo}
 use Rattle.nats_frames.specs.declared.frame.Side.{Side}
 use Rattle.nats_frames.specs.declared.frame.Side.TheVariants.{FromClient, FromServer}
@@ -20,15 +17,14 @@ use Rattle.nats_frames.specs.declared.frame.ClientFrame.{ClientFrame}
 use Rattle.nats_frames.specs.declared.frame.ClientFrame.TheVariants.{Connect, Info, Pub, HPub, Sub, Unsub, Msg, HMsg, Ping, Pong, Okay, Fault, BadSubject}
 use Rattle.nats_frames.specs.declared.operation.Envelope.{Envelope}
 use Rattle.nats_frames.specs.declared.operation.Envelope.TheVariants.{Publication, Delivery, Unreadable}
-use Rattle.nats_frames.specs.declared.stream.First.TheVariants.{Frame, More, Refuse}
-use Rattle.nats_frames.specs.declared.stream.Said.{Said}
+use Rattle.nats_frames.specs.declared.stream.First.TheVariants.{Frame}
 use Rattle.nats_frames.specs.declared.stream.Said.TheVariants.{Whole, Carries, Unfit}
 use Rattle.nats_frames.specs.Fields.{size_of, is_short, quoted}
 use Rattle.nats_frames.specs.Frames.{most_line, most_payload, whole_or, subscription, ended_after, is_address, publication, delivery, framed, said_by, said, first, fault}
 use Rattle.nats_frames.specs.Json.{connect_of, info_of, object_of, connect_data, info_data}
 use Rattle.nats_frames.specs.Lines.{has_no_feed}
-use Rattle.nats_frames.specs.Stream.{sized, with_block, opened, carried, decided, first_of}
-use Rattle.nats_frames.specs.Texts.{worded, onto_some, count_fields, line_of, body, text, IsWithinBounds}
+use Rattle.nats_frames.specs.Stream.{sized}
+use Rattle.nats_frames.specs.Texts.{worded, onto_some, count_fields, line_of, text, IsWithinBounds}
 use Rattle.nats_frames.proofs.Again.{Back, ReadsAgain, line_again, body_again, sized_back, onto_some_fields, one_size, two_sizes, quoted_back}
 use Rattle.nats_frames.proofs.Decimals.{size_decimal}
 use Rattle.nats_frames.proofs.JsonFrames.{connect_plain, connect_read, info_plain, info_read}

@@ -1,3 +1,4 @@
+pub mod Feeds
 pub mod Frames
 pub mod Json
 pub mod Kinds

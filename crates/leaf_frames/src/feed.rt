@@ -1,5 +1,5 @@
-ghost use Rattle.std.specs.Prelude.{◌≡◌, ◌<◌, None, length, IfOk, IfSome, OnOk, OnErr, OnSome};
-ghost use Rattle.nats_frames.specs.Feeds.{nothing_yet, fed, Gives};
+ghost use Rattle.std.specs.Prelude.{◌≡◌, ◌+◌, ◌<◌, ◌≤◌, None, length, IfOk, IfSome, OnOk, OnErr, OnSome};
+ghost use Rattle.nats_frames.specs.Feeds.{nothing_yet, fed, Gives, HoldsRest};
 ghost use Rattle.leaf_frames.specs.Frames.{first};
 ghost use Rattle.leaf_frames.specs.Kinds.{IsLeaf};
 
@@ -22,12 +22,13 @@ pub struct LeafFeed {
 }
 
 impl Model for LeafFeed {
-    ghost use Rattle.nats_frames.specs.Feeds.{Pending, Waits};
+    ghost use Rattle.nats_frames.specs.Feeds.{Waits};
+    ghost use Rattle.leaf_frames.specs.Feeds.{Reading};
     ghost use Rattle.leaf_frames.specs.Frames.{first};
 
-    ghost Value = { Pending };
+    ghost Value = { Reading };
 
-    ghost view = { λ it. it.intake.pending };
+    ghost view = { λ it. record { pending = it.intake.pending; held = it.intake.held } };
 
     ghost invariant = { λ it. Waits first it.intake.pending.rest it.intake.wanted };
 }
@@ -35,7 +36,7 @@ impl Model for LeafFeed {
 impl LeafFeed {
     /// A stream of which nothing came yet. It takes no memory until a piece comes.
     pub fn new(alloc: Global) -> LeafFeed
-        ensures { result ≡ nothing_yet }
+        ensures { result ≡ record { pending = nothing_yet; held = 0 } }
     {
         LeafFeed {
             intake: Intake::new(alloc),
@@ -45,9 +46,10 @@ impl LeafFeed {
     /// Takes the next piece of the stream. A feed that is refused lets it go, and needs no memory for it.
     /// Without memory nothing changes.
     pub fn feed(&mut self, piece: &[u8]) -> Result<(), NoMemory>
-        ensures ok { OnOk result (self.new ≡ fed self.old piece.now) }
-        ensures err { OnErr result (self.new ≡ self.old) }
-        ensures standing { OnErr result (self.old.refused ≡ None) }
+        ensures ok { OnOk result (self.new.pending ≡ fed self.old.pending piece.now) }
+        ensures err { OnErr result (self.new.pending ≡ self.old.pending) }
+        ensures standing { OnErr result (self.old.pending.refused ≡ None) }
+        ensures held { self.new.held ≤ self.old.held + length piece.now }
     {
         self.intake.feed(piece)
     }
@@ -59,10 +61,14 @@ impl LeafFeed {
     /// each call. Without memory nothing changes, and the call may be made again: a feed that is refused
     /// needs none.
     pub fn next(&mut self) -> Result<Option<LeafFrame>, FeedFault>
-        ensures gives { Gives first self.old result self.new }
+        ensures gives { Gives first self.old.pending result self.new.pending }
+
+        // Its buffer has no more bytes than before, and the rest alone where it gives no frame.
+        ensures held { self.new.held ≤ self.old.held }
+        ensures rest { HoldsRest result self.new.pending.rest self.new.held }
 
         // Each frame is taken from the rest.
-        ensures shorter { IfOk result (λ it. OnSome it (length self.new.rest < length self.old.rest)) }
+        ensures shorter { IfOk result (λ it. OnSome it (length self.new.pending.rest < length self.old.pending.rest)) }
 
         // Each frame is one of a leaf link.
         ensures kind { IfOk result (λ it. IfSome it IsLeaf) }

@@ -1,6 +1,7 @@
 -- What a feed gives, and what it goes on to know of its rest.
-use Rattle.std.proofs.Common.{◌≡◌, ℕ, ◌<◌, List, [], ◌++◌, length, true, Option, None, Some, Result, Ok, Err, refl, sym, ap, ◌∙◌, subst, arith, length-append, append-nil}
-use Rattle.std.proofs.lemmas.Bool.{false≢true}
+use Rattle.std.proofs.Common.{◌≡◌, ℕ, ◌+◌, ◌<◌, List, [], ◌++◌, length, Bool, true, false, Option, None, Some, Result, Ok, Err, refl, sym, ap, ◌∙◌, subst, arith, length-append, append-nil}
+use Rattle.std.specs.Prelude.{◌||◌, nat_lt, is_some, OnSome}
+use Rattle.std.proofs.lemmas.Bool.{false≢true, lt-ltb}
 use Rattle.std.proofs.lemmas.List.{take-append-le}
 use Rattle.nats_frames.specs.declared.fault.FrameText.{FrameText}
 use Rattle.nats_frames.specs.declared.fault.FeedFault.{FeedFault}
@@ -12,7 +13,7 @@ use Rattle.nats_frames.specs.Lines.{has_no_feed}
 use Rattle.nats_text.specs.Headers.{HeaderBlock}
 use Rattle.nats_frames.specs.declared.stream.Said.{Said}
 use Rattle.nats_frames.specs.Stream.{first_by}
-use Rattle.nats_frames.specs.Feeds.{Pending, fed, refusal, told_of, next_told, left_of, next_left, Gives, is_more, Waits, wanted_of, IsWithin, IsLooked}
+use Rattle.nats_frames.specs.Feeds.{Pending, Stock, fed, refusal, told_of, next_told, left_of, next_left, Gives, is_more, Waits, wanted_of, IsWithin, IsLooked, IsAlone}
 use Rattle.nats_frames.proofs.Streams.{Within, wish_waits, waits_on, waits_none, first_within}
 
 -- ---- what comes next
@@ -61,6 +62,29 @@ looked_on rest piece looked k = record {
   within = omega (arith, k.within, length-append rest piece);
   none = ap has_no_feed (take-append-le looked rest piece k.within) ∙ k.none;
 }
+
+-- ---- what is known of memory
+
+-- a piece more
+pub alone_on : (stock : Stock) (piece : List ℕ) (wanted : ℕ) (refused : Option Refused) → IsAlone stock wanted refused → IsAlone (record { bytes = stock.bytes ++ piece; held = stock.held + length piece }) wanted refused
+alone_on stock piece wanted refused alone h = ap (λ n. n + length piece) (alone h) ∙ sym (length-append stock.bytes piece)
+
+or_true : (b : Bool) → (b || true) ≡ true
+or_true true = refl
+or_true false = refl
+
+-- a stream that is refused
+pub alone_refused : (stock : Stock) (wanted : ℕ) (refused : Option Refused) → IsAlone stock wanted refused → OnSome refused (stock.held ≡ length stock.bytes)
+alone_refused stock wanted None alone = tt
+alone_refused stock wanted (Some refused) alone = alone (or_true (nat_lt 0 wanted))
+
+-- a stream that waits
+pub alone_waits : (stock : Stock) (wanted : ℕ) (refused : Option Refused) → IsAlone stock wanted refused → length stock.bytes < wanted → stock.held ≡ length stock.bytes
+alone_waits stock wanted refused alone few = alone (ap (λ b. b || is_some refused) (lt-ltb 0 wanted (omega (arith, few))))
+
+-- a stream that goes on with nothing to wait for
+pub alone_free : (stock : Stock) (refused : Option Refused) → refused ≡ None → IsAlone stock 0 refused
+alone_free stock refused none h = absurd (false≢true (sym (ap is_some none) ∙ h))
 
 -- what was waited for is waited for when a piece comes, and when none is kept
 pub fed_waits : {F : Type 0} (first : List ℕ → First F) (p : Pending) (piece : List ℕ) (wanted : ℕ) → Waits first p.rest wanted → Waits first (fed p piece).rest wanted

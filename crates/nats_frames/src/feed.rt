@@ -1,5 +1,5 @@
-ghost use Rattle.std.specs.Prelude.{◌≡◌, ◌<◌, None, length, IfOk, IfSome, OnOk, OnErr, OnSome};
-ghost use Rattle.nats_frames.specs.Feeds.{nothing_yet, fed, Gives};
+ghost use Rattle.std.specs.Prelude.{◌≡◌, ◌+◌, ◌<◌, ◌≤◌, None, length, IfOk, IfSome, OnOk, OnErr, OnSome};
+ghost use Rattle.nats_frames.specs.Feeds.{nothing_yet, fed, Gives, HoldsRest};
 ghost use Rattle.nats_frames.specs.Frames.{first};
 ghost use Rattle.nats_frames.specs.Kinds.{IsOf};
 ghost use Rattle.nats_frames.specs.Texts.{HasTexts};
@@ -27,7 +27,7 @@ impl Model for Feed {
 
     ghost Value = { Reading };
 
-    ghost view = { λ it. record { side = it.side; pending = it.intake.pending } };
+    ghost view = { λ it. record { side = it.side; pending = it.intake.pending; held = it.intake.held } };
 
     ghost invariant = { λ it. Waits (first it.side) it.intake.pending.rest it.intake.wanted };
 }
@@ -35,7 +35,7 @@ impl Model for Feed {
 impl Feed {
     /// A stream of which nothing came yet. It takes no memory until a piece comes.
     pub fn new(alloc: Global, side: Side) -> Feed
-        ensures { result ≡ record { side = side; pending = nothing_yet } }
+        ensures { result ≡ record { side = side; pending = nothing_yet; held = 0 } }
     {
         Feed {
             side,
@@ -50,6 +50,7 @@ impl Feed {
         ensures ok { OnOk result (self.new.pending ≡ fed self.old.pending piece.now) }
         ensures err { OnErr result (self.new.pending ≡ self.old.pending) }
         ensures standing { OnErr result (self.old.pending.refused ≡ None) }
+        ensures held { self.new.held ≤ self.old.held + length piece.now }
     {
         self.intake.feed(piece)
     }
@@ -63,6 +64,10 @@ impl Feed {
     pub fn next(&mut self) -> Result<Option<ClientFrame>, FeedFault>
         ensures side { self.new.side ≡ self.old.side }
         ensures gives { Gives (first self.old.side) self.old.pending result self.new.pending }
+
+        // Its buffer has no more bytes than before, and the rest alone where it gives no frame.
+        ensures held { self.new.held ≤ self.old.held }
+        ensures rest { HoldsRest result self.new.pending.rest self.new.held }
 
         // Each frame is taken from the rest.
         ensures shorter { IfOk result (λ it. OnSome it (length self.new.pending.rest < length self.old.pending.rest)) }

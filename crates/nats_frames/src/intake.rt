@@ -1,5 +1,5 @@
 ghost use Rattle.std.specs.Prelude.{◌≡◌, ◌+◌, ◌-◌, ◌^◌, ◌<◌, ◌≤◌, [], ◌++◌, None, Some, length, drop, min, IsTrue, IfOk, OnOk, OnErr, OnSome};
-ghost use Rattle.nats_frames.specs.Feeds.{nothing_yet, fed, Gives, refusal, told_of, left_of, wanted_of, Waits, IsWithin};
+ghost use Rattle.nats_frames.specs.Feeds.{nothing_yet, fed, Gives, refusal, told_of, left_of, wanted_of, Waits, IsWithin, HoldsRest};
 ghost use Rattle.nats_frames.specs.Stream.{first_by};
 
 use crate::backlog::Backlog;
@@ -28,19 +28,19 @@ pub struct Intake {
 }
 
 impl Model for Intake {
-    ghost use Rattle.nats_frames.specs.Feeds.{Held, IsLooked};
+    ghost use Rattle.nats_frames.specs.Feeds.{Held, IsLooked, IsAlone};
 
     ghost Value = { Held };
 
-    ghost view = { λ it. record { pending = record { rest = it.backlog; taken = it.taken; refused = it.refused }; wanted = it.wanted } };
+    ghost view = { λ it. record { pending = record { rest = it.backlog.bytes; taken = it.taken; refused = it.refused }; wanted = it.wanted; held = it.backlog.held } };
 
-    ghost invariant = { λ it. IsLooked it.backlog it.looked };
+    ghost invariant = { λ it. IsLooked it.backlog.bytes it.looked × IsAlone it.backlog it.wanted it.refused };
 }
 
 impl Intake {
     /// A stream of which nothing came yet. It takes no memory until a piece comes.
     pub fn new(alloc: Global) -> Intake
-        ensures { result ≡ record { pending = nothing_yet; wanted = 0 } }
+        ensures { result ≡ record { pending = nothing_yet; wanted = 0; held = 0 } }
     {
         Intake {
             backlog: Backlog::new(alloc),
@@ -58,6 +58,7 @@ impl Intake {
         ensures ok { OnOk result (self.new.pending ≡ fed self.old.pending piece.now) }
         ensures err { OnErr result (self.new.pending ≡ self.old.pending) }
         ensures standing { OnErr result (self.old.pending.refused ≡ None) }
+        ensures held { self.new.held ≤ self.old.held + length piece.now }
     {
         match self.refused() {
             Some(_) => Ok(()),
@@ -76,6 +77,10 @@ impl Intake {
         ensures waits { Waits (first_by P.most (P.said protocol.now) P.framed) self.new.pending.rest self.new.wanted }
         ensures gives { Gives (first_by P.most (P.said protocol.now) P.framed) self.old.pending result self.new.pending }
 
+        // Its buffer has no more bytes than before, and the rest alone where it gives no frame.
+        ensures held { self.new.held ≤ self.old.held }
+        ensures rest { HoldsRest result self.new.pending.rest self.new.held }
+
         // Each frame is taken from the rest.
         ensures shorter { IfOk result (λ it. OnSome it (length self.new.pending.rest < length self.old.pending.rest)) }
     {
@@ -91,6 +96,8 @@ impl Intake {
         requires waits { Waits (first_by P.most (P.said protocol.now) P.framed) self.old.pending.rest self.old.wanted }
         ensures waits { Waits (first_by P.most (P.said protocol.now) P.framed) self.new.pending.rest self.new.wanted }
         ensures gives { Gives (first_by P.most (P.said protocol.now) P.framed) self.old.pending result self.new.pending }
+        ensures held { self.new.held ≤ self.old.held }
+        ensures rest { HoldsRest result self.new.pending.rest self.new.held }
         ensures shorter { IfOk result (λ it. OnSome it (length self.new.pending.rest < length self.old.pending.rest)) }
     {
         if self.waits() {
@@ -108,6 +115,8 @@ impl Intake {
         ensures told { result ≡ told_of self.old.pending front }
         ensures left { self.new.pending ≡ left_of self.old.pending front }
         ensures wanted { self.new.wanted ≡ wanted_of front }
+        ensures held { self.new.held ≤ self.old.held }
+        ensures rest { HoldsRest result self.new.pending.rest self.new.held }
         ensures shorter { IfOk result (λ it. OnSome it (length self.new.pending.rest < length self.old.pending.rest)) }
     {
         match front {
@@ -124,7 +133,8 @@ impl Intake {
     }
 
     fn refused(&self) -> Option<Refused>
-        ensures { result ≡ self.now.pending.refused }
+        ensures refused { result ≡ self.now.pending.refused }
+        ensures rest { OnSome result (self.now.held ≡ length self.now.pending.rest) }
     {
         self.refused
     }
@@ -133,6 +143,7 @@ impl Intake {
         ensures wanted { self.new.wanted ≡ self.old.wanted }
         ensures ok { OnOk result (self.new.pending ≡ record self.old.pending { rest = self.old.pending.rest ++ piece.now }) }
         ensures err { OnErr result (self.new.pending ≡ self.old.pending) }
+        ensures held { self.new.held ≤ self.old.held + length piece.now }
     {
         self.backlog.add(piece)?;
         Ok(())
@@ -140,7 +151,8 @@ impl Intake {
 
     // Whether too few bytes came since more were wanted.
     fn waits(&self) -> bool
-        ensures { IsTrue result → length self.now.pending.rest < self.now.wanted }
+        ensures few { IsTrue result → length self.now.pending.rest < self.now.wanted }
+        ensures rest { IsTrue result → self.now.held ≡ length self.now.pending.rest }
     {
         self.backlog.len() < self.wanted
     }
@@ -166,6 +178,7 @@ impl Intake {
         requires standing { self.old.pending.refused ≡ None }
         ensures pending { self.new.pending ≡ record { rest = drop len self.old.pending.rest; taken = min (self.old.pending.taken + len) (2 ^ 64 - 1); refused = None } }
         ensures wanted { self.new.wanted ≡ 0 }
+        ensures held { self.new.held ≡ self.old.held }
     {
         self.backlog.advance(len);
         self.looked = 0;
@@ -177,6 +190,8 @@ impl Intake {
     fn wait(&mut self, wanted: usize)
         ensures pending { self.new.pending ≡ self.old.pending }
         ensures wanted { self.new.wanted ≡ wanted }
+        ensures held { self.new.held ≡ length self.old.pending.rest }
+        ensures less { self.new.held ≤ self.old.held }
     {
         self.wanted = wanted;
         self.backlog.settle();
@@ -187,6 +202,7 @@ impl Intake {
         ensures refusal { result ≡ refusal self.old.pending text }
         ensures pending { self.new.pending ≡ record { rest = []; taken = self.old.pending.taken; refused = Some (refusal self.old.pending text) } }
         ensures wanted { self.new.wanted ≡ 0 }
+        ensures held { self.new.held ≡ 0 }
     {
         let refused = Refused {
             text,

@@ -6,10 +6,10 @@ use Rattle.nats_frames.specs.Stream.{first_by}
 use Rattle.nats_frames.proofs.intake.Intake.front.Goals as goal
 
 pub beginning_from-requires-clause-looked : goal.beginning_from-requires-clause-looked
-beginning_from-requires-clause-looked g c = subst (λ (b : List ℕ). c.self.inside.looked ≤ length b) (sym c.bytes.ensures) c.self.invariant.within
+beginning_from-requires-clause-looked g c = subst (λ (b : List ℕ). c.self.inside.looked ≤ length b) (sym c.bytes.ensures) c.self.invariant.0.within
 
 pub beginning_from-requires-clause-none : goal.beginning_from-requires-clause-none
-beginning_from-requires-clause-none g c = subst (λ (b : List ℕ). has_no_feed (take c.self.inside.looked b) ≡ true) (sym c.bytes.ensures) c.self.invariant.none
+beginning_from-requires-clause-none g c = subst (λ (b : List ℕ). has_no_feed (take c.self.inside.looked b) ≡ true) (sym c.bytes.ensures) c.self.invariant.0.none
 
 pub returns : goal.returns
 returns g c =

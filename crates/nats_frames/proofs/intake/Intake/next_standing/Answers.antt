@@ -7,7 +7,7 @@ returns-then-waits-clause-gives g c =
     let p = g.P.Protocol in
     let it = c.args.self.now in
     gives_more (first_by p.most (p.said c.args.protocol.now) p.framed) it.pending c.requires.standing
-    (is_waiting (first_by p.most (p.said c.args.protocol.now) p.framed) it.pending.rest it.wanted c.requires.waits (c.waits.ensures c.if-waits.true))
+    (is_waiting (first_by p.most (p.said c.args.protocol.now) p.framed) it.pending.rest it.wanted c.requires.waits (c.waits.ensures.few c.if-waits.true))
 
 pub told-requires-clause-within : goal.told-requires-clause-within
 told-requires-clause-within g c =

@@ -1,10 +1,5 @@
 //! What a stream gives when it comes in two pieces.
-ghost use Rattle.std.specs.Prelude.{IsTrue};
-ghost use Rattle.nats_frames.specs.Texts.{HasTexts};
-
-use nats_frames::{
-    ClientFrame, Feed, FeedFault, FrameText, Refused, ServerInfo, Side, write_frame,
-};
+use nats_frames::{Feed, FeedFault, FrameText, Refused, Side, write_frame};
 use nats_text::NoMemory;
 use std::alloc::Global;
 
@@ -32,7 +27,7 @@ fn add_next(feed: &mut Feed, found: &mut Vec<u8>) -> Result<bool, FeedFault> {
     let Some(frame) = feed.next()? else {
         return Ok(false);
     };
-    add(&frame, found)?;
+    write_frame(&frame, found)?;
     Ok(true)
 }
 
@@ -100,29 +95,4 @@ fn is_end(end: Option<Refused>, refused: Option<(FrameText, u64)>) -> bool {
         (Some(end), Some((text, place))) => end == Refused { text, place },
         _ => false,
     }
-}
-
-fn add(frame: &ClientFrame, found: &mut Vec<u8>) -> Result<(), NoMemory> {
-    if has_texts(frame) {
-        write_frame(frame, found)?;
-    }
-    Ok(())
-}
-
-// Whether the texts of an INFO are UTF-8, as those of each INFO that is read are.
-fn has_texts(frame: &ClientFrame) -> bool
-    ensures { IsTrue result → HasTexts frame.now }
-{
-    match frame {
-        ClientFrame::Info(info) => are_texts(info),
-        _ => true,
-    }
-}
-
-fn are_texts(info: &ServerInfo) -> bool
-    ensures { IsTrue result → HasTexts (ClientFrame.Info info.now) }
-{
-    str::from_utf8(info.version.as_slice()).is_ok()
-        && str::from_utf8(info.go.as_slice()).is_ok()
-        && str::from_utf8(info.host.as_slice()).is_ok()
 }

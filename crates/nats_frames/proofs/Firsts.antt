@@ -80,8 +80,12 @@ of_good side bytes (Bad text) blocks free = tt
 first_good : (side : Side) (bytes : List ℕ) → BlocksAre → GoodFirst side (first side bytes)
 first_good side bytes blocks = of_good side bytes (line_end most_line bytes) blocks (end_free bytes (position_from is_feed 0 bytes) refl)
 
-pub reads_its_text : ReadsBlocksAlone → ReadsWhatIsWritten → ReadsItsText
-reads_its_text reads again side bytes frame len h within =
+-- what a reading gives is good
+pub given_good : ReadsBlocksAlone → (side : Side) (bytes : List ℕ) (frame : ClientFrame) (len : ℕ) → first side bytes ≡ Frame frame len → Good side frame
+given_good reads side bytes frame len h =
     let blocks : BlocksAre = λ b block e. ((reads b block).0 e).0 in
     let P : First ClientFrame → Type 0 = GoodFirst side in
-    good_again side frame again (subst P h (first_good side bytes blocks)) within
+    subst P h (first_good side bytes blocks)
+
+pub reads_its_text : ReadsBlocksAlone → ReadsWhatIsWritten → ReadsItsText
+reads_its_text reads again side bytes frame len h within = good_again side frame again (given_good reads side bytes frame len h) within

@@ -19,7 +19,7 @@ use Rattle.nats_frames.proofs.Names.{name_utf8}
 use Rattle.nats_frames.proofs.Readable.{GoodServer}
 
 -- an object that is written reads as the object
-object_read : (ms : Members) → Plain (object ms) → of_json (outline (object ms)) ≡ Some (object ms) → depth (object ms) ≤ max_depth → object_of (compact_text (object ms)) ≡ Some (object ms)
+pub object_read : (ms : Members) → Plain (object ms) → of_json (outline (object ms)) ≡ Some (object ms) → depth (object ms) ≤ max_depth → object_of (compact_text (object ms)) ≡ Some (object ms)
 object_read ms plain ordered shallow =
     let d : Data = object ms in
     let keep : Data → Option Data = λ x. cond (is_some (as_object x)) (Some x) None in

@@ -1,19 +1,21 @@
+pub mod Again
 mod Carries
-mod Decimals
+pub mod Decimals
 mod Deliveries
-mod Ends
-mod Feeds
+pub mod Ends
+pub mod Feeds
 mod Firsts
-mod JsonFrames
-mod Jsons
+pub mod Givings
+pub mod JsonFrames
+pub mod Jsons
 mod Looks
-mod Names
+pub mod Names
 mod Objects
-mod Parts
-mod Readable
-mod Runs
-mod Sides
-mod Streams
-mod Takes
+pub mod Parts
+pub mod Readable
+pub mod Runs
+pub mod Sides
+pub mod Streams
+pub mod Takes
 mod Trims
 mod Written

@@ -104,19 +104,19 @@ choose P true x y g h = g refl
 choose P false x y g h = h refl
 
 -- each value has the property, where there is one
-abbrev AllOf : {A : Type 0} → (A → Type 0) → Option A → Type 0
+abbrev pub AllOf : {A : Type 0} → (A → Type 0) → Option A → Type 0
 AllOf R None = Unit {0}
 AllOf R (Some x) = R x
 
-then_good : {A B : Type 0} (R : A → Type 0) (P : Option B → Type 0) (f : A → Option B) (o : Option A) → AllOf R o → P None → ((x : A) → R x → P (f x)) → P (option_and_then f o)
+pub then_good : {A B : Type 0} (R : A → Type 0) (P : Option B → Type 0) (f : A → Option B) (o : Option A) → AllOf R o → P None → ((x : A) → R x → P (f x)) → P (option_and_then f o)
 then_good R P f None all none h = none
 then_good R P f (Some x) all none h = h x all
 
-map_good : {A B : Type 0} (R : A → Type 0) (P : Option B → Type 0) (f : A → B) (o : Option A) → AllOf R o → P None → ((x : A) → R x → P (Some (f x))) → P (option_map f o)
+pub map_good : {A B : Type 0} (R : A → Type 0) (P : Option B → Type 0) (f : A → B) (o : Option A) → AllOf R o → P None → ((x : A) → R x → P (Some (f x))) → P (option_map f o)
 map_good R P f None all none h = none
 map_good R P f (Some x) all none h = h x all
 
-any_of : {A : Type 0} (o : Option A) → AllOf (λ (x : A). Unit {0}) o
+pub any_of : {A : Type 0} (o : Option A) → AllOf (λ (x : A). Unit {0}) o
 any_of None = tt
 any_of (Some x) = tt
 
@@ -139,7 +139,7 @@ connect_good o =
     then_good R P (λ n. option_map (λ e. ConnectFrame v h n e) (switch_at (codes "echo") true d)) (switch_at (codes "no_responders") false d) (any_of (switch_at (codes "no_responders") false d)) tt (λ n u.
     map_good R P (λ e. ConnectFrame v h n e) (switch_at (codes "echo") true d) (any_of (switch_at (codes "echo") true d)) tt (λ e u. refl)))))
 
-name_all : (name : List ℕ) (d : Data) → AllOf (λ t. is_name t ≡ true) (name_at name d)
+pub name_all : (name : List ℕ) (d : Data) → AllOf (λ t. is_name t ≡ true) (name_at name d)
 name_all name d = tested_all is_name (option_and_then as_str (get name d))
 
 text_all : (name : List ℕ) (d : Data) → AllOf (λ t. is_utf8 t ≡ true) (text_at name d)
@@ -192,7 +192,7 @@ info_good o =
 
 -- ---- lines without a payload
 
-pick : (f : List ℕ) (fs : List (List ℕ)) → list_all is_field (f ∷ fs) ≡ true → (is_field f ≡ true) × (list_all is_field fs ≡ true)
+pub pick : (f : List ℕ) (fs : List (List ℕ)) → list_all is_field (f ∷ fs) ≡ true → (is_field f ≡ true) × (list_all is_field fs ≡ true)
 pick f fs h = let p = and_parts (is_field f) (list_all is_field fs) h in (p.0, p.1)
 
 queue_good : (queue : Option (List ℕ)) → option_map_or is_short queue true ≡ true → option_map_or is_field queue true ≡ true → GoodQueue queue
@@ -245,12 +245,12 @@ alone_good side frame (f ∷ fs) g = tt
 
 -- ---- a text without LF stays so
 
-free_start : (bs : List ℕ) → has_no_feed bs ≡ true → has_no_feed (trim_start bs) ≡ true
+pub free_start : (bs : List ℕ) → has_no_feed bs ≡ true → has_no_feed (trim_start bs) ≡ true
 free_start [] h = refl
 free_start (b ∷ bs) h =
     choose (λ x. has_no_feed x ≡ true) (is_blank b) (trim_start bs) (b ∷ bs) (λ e. free_start bs (and_parts (not (is_feed b)) (has_no_feed bs) h).1) (λ e. h)
 
-free_blank : (bs : List ℕ) → has_no_feed bs ≡ true → has_no_feed (from_blank bs) ≡ true
+pub free_blank : (bs : List ℕ) → has_no_feed bs ≡ true → has_no_feed (from_blank bs) ≡ true
 free_blank [] h = refl
 free_blank (b ∷ bs) h =
     choose (λ x. has_no_feed x ≡ true) (is_blank b) (b ∷ bs) (from_blank bs) (λ e. h) (λ e. free_blank bs (and_parts (not (is_feed b)) (has_no_feed bs) h).1)
@@ -258,13 +258,13 @@ free_blank (b ∷ bs) h =
 free_parts : (a b : List ℕ) → has_no_feed (a ++ b) ≡ true → (has_no_feed a ≡ true) × (has_no_feed b ≡ true)
 free_parts a b h = let p = and_parts (has_no_feed a) (has_no_feed b) (sym (list_all-append (λ x. not (is_feed x)) a b) ∙ h) in (p.0, p.1)
 
-free_end : (bs : List ℕ) → has_no_feed bs ≡ true → has_no_feed (trim_end bs) ≡ true
+pub free_end : (bs : List ℕ) → has_no_feed bs ≡ true → has_no_feed (trim_end bs) ≡ true
 free_end bs h = let e = trim_end_is bs in (free_parts (trim_end bs) e.blanks (ap has_no_feed (sym e.is) ∙ h)).0
 
-free_take : (n : ℕ) (bs : List ℕ) → has_no_feed bs ≡ true → has_no_feed (take n bs) ≡ true
+pub free_take : (n : ℕ) (bs : List ℕ) → has_no_feed bs ≡ true → has_no_feed (take n bs) ≡ true
 free_take n bs h = (free_parts (take n bs) (drop n bs) (ap has_no_feed (take-append-drop n bs) ∙ h)).0
 
-free_drop : (n : ℕ) (bs : List ℕ) → has_no_feed bs ≡ true → has_no_feed (drop n bs) ≡ true
+pub free_drop : (n : ℕ) (bs : List ℕ) → has_no_feed bs ≡ true → has_no_feed (drop n bs) ≡ true
 free_drop n bs h = (free_parts (take n bs) (drop n bs) (ap has_no_feed (take-append-drop n bs) ∙ h)).1
 
 fault_good : (text : List ℕ) → has_no_feed text ≡ true → GoodSaid FromServer (fault (quoted text))

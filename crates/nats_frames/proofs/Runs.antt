@@ -85,7 +85,7 @@ gives_stands : {F : Type 0} (first : List ℕ → First F) → AllWithin first �
 gives_stands first within stream given old new (Ok told) g s = answered first within stream given old new (Ok told) g.0 g.1 s
 gives_stands first within stream given old new (Err (IsRefused refused)) g s = answered first within stream given old new (Err (IsRefused refused)) g.0 g.1 s
 gives_stands first within stream given old new (Err NoMemory) g s =
-    no_more first stream given new (subst (λ (p : Pending). Stands first stream given p) (sym g) s)
+    no_more first stream given new (subst (λ (p : Pending). Stands first stream given p) (sym g.0) s)
 
 -- ---- all of it
 

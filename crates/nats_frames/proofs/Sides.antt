@@ -20,7 +20,8 @@ use Rattle.nats_frames.specs.Kinds.{is_plain_byte, is_label, is_queue, IsCount, 
 use Rattle.nats_frames.specs.Laws.{ReadsEachText}
 use Rattle.nats_frames.proofs.Parts.{is_field_byte, is_field}
 use Rattle.nats_frames.proofs.Readable.{GoodAddress, GoodShort, GoodQueue, GoodCount, GoodServer, Good}
-use Rattle.nats_frames.proofs.Written.{ReadsAgain, good_again}
+use Rattle.nats_frames.proofs.Again.{ReadsAgain}
+use Rattle.nats_frames.proofs.Written.{good_again}
 
 -- ---- subjects and patterns have no blanks
 
@@ -84,19 +85,19 @@ no_literal s h e = false≢true (ap (λ x. list_all is_literal_token (tokens x))
 no_pattern : (s : List ℕ) → are_pattern_tokens (tokens s) ≡ true → s ≡ [] → ⊥
 no_pattern s h e = false≢true (ap (λ x. are_pattern_tokens (tokens x)) (sym e) ∙ h)
 
-subject_field : (s : List ℕ) → is_subject s ≡ true → is_field s ≡ true
+pub subject_field : (s : List ℕ) → is_subject s ≡ true → is_field s ≡ true
 subject_field s h =
     let p = and_parts (nat_le (length s) 1024 && is_utf8 s) (list_all is_literal_token (tokens s)) h in
     filled_field s (no_literal s p.1) (bytes_field s (literals_are (tokens s) p.1))
 
-pattern_field : (s : List ℕ) → is_pattern s ≡ true → is_field s ≡ true
+pub pattern_field : (s : List ℕ) → is_pattern s ≡ true → is_field s ≡ true
 pattern_field s h =
     let p = and_parts (nat_le (length s) 1024 && is_utf8 s) (are_pattern_tokens (tokens s)) h in
     filled_field s (no_pattern s p.1) (bytes_field s (patterns_are (tokens s) p.1))
 
 -- ---- frames
 
-reply_field : (reply : Option (List ℕ)) → option_map_or is_subject reply true ≡ true → option_map_or is_field reply true ≡ true
+pub reply_field : (reply : Option (List ℕ)) → option_map_or is_subject reply true ≡ true → option_map_or is_field reply true ≡ true
 reply_field None h = refl
 reply_field (Some reply) h = subject_field reply h
 

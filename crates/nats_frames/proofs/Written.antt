@@ -1,18 +1,15 @@
 -- Frames that are written are read again.
-use Rattle.std.proofs.Common.{◌≡◌, ℕ, ◌+◌, ◌-◌, ◌<◌, ◌≤◌, ◌^◌, ◌==◌, List, [], ◌∷◌, ◌++◌, length, get_or, take, drop, Bool, true, false, ◌&&◌, cond, nat_lt, Option, None, Some, refl, sym, ap, ◌∙◌, arith, length-append, append_assoc}
-use Rattle.std.specs.Prelude.{Ok, codes, decimal, option_and_then}
+use Rattle.std.proofs.Common.{◌≡◌, ℕ, ◌+◌, ◌<◌, ◌≤◌, List, [], ◌∷◌, ◌++◌, length, Bool, true, false, ◌&&◌, cond, nat_lt, Option, None, Some, refl, sym, ap, ◌∙◌, arith}
+use Rattle.std.specs.Prelude.{codes, decimal, option_and_then}
 use Rattle.std.specs.List.{list_all}
 use Rattle.std.specs.Option.{option_map_or}
-use Rattle.std.specs.Str.{bytes_eq, is_utf8}
-use Rattle.std.proofs.lemmas.Bool.{cond-true, cond-false, and_from, lt-ltb, le-ltb, eq-eqb}
-use Rattle.std.proofs.Math.Seq.{get_or-append_seam, take-append_seam, drop-append_seam, drop-append-add}
-use Rattle.std.proofs.lemmas.List.{take_at, drop_at}
-use Rattle.std.proofs.lemmas.Slice.Eq.{bytes_eq-Decides}
+use Rattle.std.specs.Str.{is_utf8}
+use Rattle.std.proofs.lemmas.Bool.{cond-true, cond-false, and_from, lt-ltb}
 use Rattle.serde_json.specs.Written.{compact_text}
-use Rattle.nats_text.specs.Headers.{HeaderBlock, no_headers, is_header_block, crlf, written, read_block, trim_end}
+use Rattle.nats_text.specs.Headers.{HeaderBlock, no_headers, written, trim_end}
 use Rattle.nats_text.specs.Text.{is_pattern}
 use Rattle.nats_text.specs.declared.message.Parcel.{Parcel}
-use Rattle.nats_frames.specs.declared.fault.FrameText.TheVariants.{ParserError, InvalidSubject, PayloadViolation}
+use Rattle.nats_frames.specs.declared.fault.FrameText.TheVariants.{ParserError, InvalidSubject}
 use Rattle.nats_frames.specs.declared.frame.ServerInfo.{ServerInfo}
 use Rattle.nats_frames.specs.declared.frame.Side.{Side}
 use Rattle.nats_frames.specs.declared.frame.Side.TheVariants.{FromClient, FromServer}
@@ -20,53 +17,20 @@ use Rattle.nats_frames.specs.declared.frame.ClientFrame.{ClientFrame}
 use Rattle.nats_frames.specs.declared.frame.ClientFrame.TheVariants.{Connect, Info, Pub, HPub, Sub, Unsub, Msg, HMsg, Ping, Pong, Okay, Fault, BadSubject}
 use Rattle.nats_frames.specs.declared.operation.Envelope.{Envelope}
 use Rattle.nats_frames.specs.declared.operation.Envelope.TheVariants.{Publication, Delivery, Unreadable}
-use Rattle.nats_frames.specs.declared.stream.First.TheVariants.{Frame, More, Refuse}
-use Rattle.nats_frames.specs.declared.stream.Said.{Said}
+use Rattle.nats_frames.specs.declared.stream.First.TheVariants.{Frame}
 use Rattle.nats_frames.specs.declared.stream.Said.TheVariants.{Whole, Carries, Unfit}
 use Rattle.nats_frames.specs.Fields.{size_of, is_short, quoted}
 use Rattle.nats_frames.specs.Frames.{most_line, most_payload, whole_or, subscription, ended_after, is_address, publication, delivery, framed, said_by, said, first, fault}
 use Rattle.nats_frames.specs.Json.{connect_of, info_of, object_of, connect_data, info_data}
 use Rattle.nats_frames.specs.Lines.{has_no_feed}
-use Rattle.nats_frames.specs.Stream.{sized, with_block, opened, carried, decided, first_of}
-use Rattle.nats_frames.specs.Texts.{worded, onto_some, count_fields, line_of, body, text, IsWithinBounds}
-use Rattle.nats_frames.proofs.Decimals.{size_decimal, decimal_field}
-use Rattle.nats_frames.proofs.Ends.{written_end}
+use Rattle.nats_frames.specs.Stream.{sized}
+use Rattle.nats_frames.specs.Texts.{worded, onto_some, count_fields, line_of, text, IsWithinBounds}
+use Rattle.nats_frames.proofs.Again.{Back, ReadsAgain, line_again, body_again, sized_back, onto_some_fields, one_size, two_sizes, quoted_back}
+use Rattle.nats_frames.proofs.Decimals.{size_decimal}
 use Rattle.nats_frames.proofs.JsonFrames.{connect_plain, connect_read, info_plain, info_read}
 use Rattle.nats_frames.proofs.Jsons.{text_free, text_end, trim_filled}
 use Rattle.nats_frames.proofs.Parts.{is_field, first_field, fields_worded, no_feed_worded, no_feed_append}
 use Rattle.nats_frames.proofs.Readable.{GoodAddress, GoodShort, GoodQueue, GoodCount, GoodServer, Good}
-
--- ---- a line and what stands behind it
-
--- what a stream begins with is decided by its line
-written_line : (side : Side) (line behind : List ℕ) → has_no_feed line ≡ true → length line ≤ most_line → first side (line ++ 13 ∷ 10 ∷ behind) ≡ decided framed (length line + 2) behind (said side line)
-written_line side line behind free le =
-    let bytes : List ℕ = line ++ 13 ∷ 10 ∷ behind in
-    let d : drop (length line + 2) bytes ≡ behind = drop-append-add line (13 ∷ 10 ∷ behind) 2 in
-    let t : take (length line) bytes ≡ line = take-append_seam line (13 ∷ 10 ∷ behind) in
-    ap (first_of (said side) framed bytes) (written_end most_line line behind free le) ∙ (λ i. decided framed (length line + 2) (d i) (said side (t i)))
-
-same_bytes : (s : List ℕ) → bytes_eq s s ≡ true
-same_bytes s = (bytes_eq-Decides s s).1 refl
-
--- a header block and a payload that stand behind a line
-written_body : {F : Type 0} (frame : HeaderBlock → List ℕ → F) (line n : ℕ) (block payload behind : List ℕ) (headers : HeaderBlock) → n ≡ length block + length payload → read_block block ≡ Ok headers → carried frame line (length block) n (body block payload ++ behind) ≡ Frame (frame headers payload) (line + n + 2)
-written_body {F} frame line n block payload behind headers size h =
-    let message : List ℕ = block ++ payload in
-    let bytes : List ℕ = (message ++ crlf) ++ behind in
-    let e : bytes ≡ message ++ (crlf ++ behind) = append_assoc message crlf behind in
-    let len : length message ≡ n = length-append block payload ∙ sym size in
-    let whole : length bytes ≡ n + (2 + length behind) = omega (arith, ap length e, length-append message (crlf ++ behind), len) in
-    let d : take 2 (drop n bytes) ≡ crlf = ap (λ b. take 2 (drop n b)) e ∙ ap (take 2) (drop_at message (crlf ++ behind) n len) in
-    let m : take n bytes ≡ message = ap (take n) e ∙ take_at message (crlf ++ behind) n len in
-    let b : take (length block) message ≡ block = take-append_seam block payload in
-    let p : drop (length block) message ≡ payload = drop-append_seam block payload in
-    let total : ℕ = line + n + 2 in
-    let opens : opened frame total (length block) message ≡ Frame (frame headers payload) total =
-    (λ i. with_block (λ x. frame x (p i)) total (read_block (b i))) ∙ ap (with_block (λ x. frame x payload) total) h in
-    cond-false (nat_lt (length bytes) (n + 2)) (More total) (cond (bytes_eq (take 2 (drop n bytes)) crlf) (opened frame total (length block) (take n bytes)) (Refuse ParserError)) (le-ltb (length bytes) (n + 2) (omega (arith, whole)))
-    ∙ ((λ i. cond (bytes_eq (d i) crlf) (opened frame total (length block) (m i)) (Refuse ParserError))
-    ∙ opens)
 
 -- ---- what a written line says
 
@@ -74,63 +38,42 @@ written_body {F} frame line n block payload behind headers size h =
 says_worded : (side : Side) (w : List ℕ) (fs : List (List ℕ)) → is_field w ≡ true → list_all is_field fs ≡ true → said side (worded w fs) ≡ said_by side (worded w fs) (w ∷ fs)
 says_worded side w fs h all = ap (said_by side (worded w fs)) (fields_worded w fs h all)
 
-onto_some_fields : (reply : Option (List ℕ)) (others : List (List ℕ)) → option_map_or is_field reply true ≡ true → list_all is_field others ≡ true → list_all is_field (onto_some reply others) ≡ true
-onto_some_fields None others r h = h
-onto_some_fields (Some reply) others r h = and_from (is_field reply) (list_all is_field others) r h
-
 address_fields : (subject : List ℕ) (reply : Option (List ℕ)) (others : List (List ℕ)) → GoodAddress subject reply → list_all is_field others ≡ true → list_all is_field (subject ∷ onto_some reply others) ≡ true
 address_fields subject reply others g h = and_from (is_field subject) (list_all is_field (onto_some reply others)) g.subject_field (onto_some_fields reply others g.reply_field h)
-
-one_size : (n : ℕ) → n < 2 ^ 64 → list_all is_field (decimal n ∷ []) ≡ true
-one_size n h = and_from (is_field (decimal n)) true (decimal_field n h) refl
-
-two_sizes : (m n : ℕ) → m < 2 ^ 64 → n < 2 ^ 64 → list_all is_field (decimal m ∷ decimal n ∷ []) ≡ true
-two_sizes m n g h = and_from (is_field (decimal m)) (list_all is_field (decimal n ∷ [])) (decimal_field m g) (one_size n h)
-
-sized_back : (e f : Envelope) (block n : ℕ) (bo so : Option ℕ) → e ≡ f → bo ≡ Some block → so ≡ Some n → block ≤ n → n ≤ most_payload → sized {F = ClientFrame} e most_payload bo so ≡ Carries f block n
-sized_back e f block n bo so ee be se within le =
-    (λ i. sized {F = ClientFrame} (ee i) most_payload (be i) (se i))
-    ∙ (cond-false (nat_lt n block) (Unfit ParserError) (cond (nat_lt most_payload n) (Unfit PayloadViolation) (Carries f block n)) (le-ltb n block within)
-    ∙ cond-false (nat_lt most_payload n) (Unfit PayloadViolation) (Carries f block n) (le-ltb most_payload n le))
 
 publication_back : (headers : Bool) (subject : List ℕ) (reply : Option (List ℕ)) → GoodAddress subject reply → publication headers subject reply ≡ Publication headers subject reply
 publication_back headers subject reply g = cond-true (is_address subject reply) (Publication headers subject reply) Unreadable g.address
 
--- what a line says, and that it is one
-pub record Back (side : Side) (line : List ℕ) (what : Said ClientFrame Envelope) : Type 0 where
-  pub free : has_no_feed line ≡ true
-  pub says : said side line ≡ what
-
-pub_back : (subject : List ℕ) (reply : Option (List ℕ)) (n : ℕ) → GoodAddress subject reply → n ≤ most_payload → Back FromClient (worded (codes "PUB") (subject ∷ onto_some reply (decimal n ∷ []))) (Carries (Publication false subject reply) 0 n)
+pub_back : (subject : List ℕ) (reply : Option (List ℕ)) (n : ℕ) → GoodAddress subject reply → n ≤ most_payload → Back (said FromClient) (worded (codes "PUB") (subject ∷ onto_some reply (decimal n ∷ []))) (Carries (Publication false subject reply) 0 n)
 pub_back subject None n g le =
     let all = address_fields subject None (decimal n ∷ []) g (one_size n (omega arith)) in
     record {
       free = no_feed_worded (codes "PUB") (subject ∷ decimal n ∷ []) refl all;
       says = says_worded FromClient (codes "PUB") (subject ∷ decimal n ∷ []) refl all
-          ∙ sized_back (publication false subject None) (Publication false subject None) 0 n (Some 0) (size_of (decimal n)) (publication_back false subject None g) refl (size_decimal n (omega arith)) (omega arith) le;
+          ∙ sized_back most_payload (publication false subject None) (Publication false subject None) 0 n (Some 0) (size_of (decimal n)) (publication_back false subject None g) refl (size_decimal n (omega arith)) (omega arith) le;
     }
 pub_back subject (Some reply) n g le =
     let all = address_fields subject (Some reply) (decimal n ∷ []) g (one_size n (omega arith)) in
     record {
       free = no_feed_worded (codes "PUB") (subject ∷ reply ∷ decimal n ∷ []) refl all;
       says = says_worded FromClient (codes "PUB") (subject ∷ reply ∷ decimal n ∷ []) refl all
-          ∙ sized_back (publication false subject (Some reply)) (Publication false subject (Some reply)) 0 n (Some 0) (size_of (decimal n)) (publication_back false subject (Some reply) g) refl (size_decimal n (omega arith)) (omega arith) le;
+          ∙ sized_back most_payload (publication false subject (Some reply)) (Publication false subject (Some reply)) 0 n (Some 0) (size_of (decimal n)) (publication_back false subject (Some reply) g) refl (size_decimal n (omega arith)) (omega arith) le;
     }
 
-hpub_back : (subject : List ℕ) (reply : Option (List ℕ)) (m n : ℕ) → GoodAddress subject reply → m ≤ n → n ≤ most_payload → Back FromClient (worded (codes "HPUB") (subject ∷ onto_some reply (decimal m ∷ decimal n ∷ []))) (Carries (Publication true subject reply) m n)
+hpub_back : (subject : List ℕ) (reply : Option (List ℕ)) (m n : ℕ) → GoodAddress subject reply → m ≤ n → n ≤ most_payload → Back (said FromClient) (worded (codes "HPUB") (subject ∷ onto_some reply (decimal m ∷ decimal n ∷ []))) (Carries (Publication true subject reply) m n)
 hpub_back subject None m n g within le =
     let all = address_fields subject None (decimal m ∷ decimal n ∷ []) g (two_sizes m n (omega arith) (omega arith)) in
     record {
       free = no_feed_worded (codes "HPUB") (subject ∷ decimal m ∷ decimal n ∷ []) refl all;
       says = says_worded FromClient (codes "HPUB") (subject ∷ decimal m ∷ decimal n ∷ []) refl all
-          ∙ sized_back (publication true subject None) (Publication true subject None) m n (size_of (decimal m)) (size_of (decimal n)) (publication_back true subject None g) (size_decimal m (omega arith)) (size_decimal n (omega arith)) within le;
+          ∙ sized_back most_payload (publication true subject None) (Publication true subject None) m n (size_of (decimal m)) (size_of (decimal n)) (publication_back true subject None g) (size_decimal m (omega arith)) (size_decimal n (omega arith)) within le;
     }
 hpub_back subject (Some reply) m n g within le =
     let all = address_fields subject (Some reply) (decimal m ∷ decimal n ∷ []) g (two_sizes m n (omega arith) (omega arith)) in
     record {
       free = no_feed_worded (codes "HPUB") (subject ∷ reply ∷ decimal m ∷ decimal n ∷ []) refl all;
       says = says_worded FromClient (codes "HPUB") (subject ∷ reply ∷ decimal m ∷ decimal n ∷ []) refl all
-          ∙ sized_back (publication true subject (Some reply)) (Publication true subject (Some reply)) m n (size_of (decimal m)) (size_of (decimal n)) (publication_back true subject (Some reply) g) (size_decimal m (omega arith)) (size_decimal n (omega arith)) within le;
+          ∙ sized_back most_payload (publication true subject (Some reply)) (Publication true subject (Some reply)) m n (size_of (decimal m)) (size_of (decimal n)) (publication_back true subject (Some reply) g) (size_decimal m (omega arith)) (size_decimal n (omega arith)) within le;
     }
 
 delivery_back : (headers : Bool) (subject sid : List ℕ) (reply : Option (List ℕ)) (m n : ℕ) (bo so : Option ℕ) → GoodAddress subject reply → GoodShort sid → bo ≡ Some m → so ≡ Some n → m ≤ n → n ≤ most_payload → delivery headers subject sid reply bo so ≡ Carries (Delivery headers sid subject reply) m n
@@ -138,14 +81,14 @@ delivery_back headers subject sid reply m n bo so g s be se within le =
     let e : Envelope = Delivery headers sid subject reply in
     cond-true (is_short sid) (cond (is_address subject reply) (sized e most_payload bo so) (Unfit InvalidSubject)) (Unfit ParserError) s.short
     ∙ (cond-true (is_address subject reply) (sized e most_payload bo so) (Unfit InvalidSubject) g.address
-    ∙ sized_back e e m n bo so refl be se within le)
+    ∙ sized_back most_payload e e m n bo so refl be se within le)
 
 sid_fields : (subject sid : List ℕ) (reply : Option (List ℕ)) (others : List (List ℕ)) → GoodAddress subject reply → GoodShort sid → list_all is_field others ≡ true → list_all is_field (subject ∷ sid ∷ onto_some reply others) ≡ true
 sid_fields subject sid reply others g s h =
     and_from (is_field subject) (list_all is_field (sid ∷ onto_some reply others)) g.subject_field
     (and_from (is_field sid) (list_all is_field (onto_some reply others)) s.field_is (onto_some_fields reply others g.reply_field h))
 
-msg_back : (subject sid : List ℕ) (reply : Option (List ℕ)) (n : ℕ) → GoodAddress subject reply → GoodShort sid → n ≤ most_payload → Back FromServer (worded (codes "MSG") (subject ∷ sid ∷ onto_some reply (decimal n ∷ []))) (Carries (Delivery false sid subject reply) 0 n)
+msg_back : (subject sid : List ℕ) (reply : Option (List ℕ)) (n : ℕ) → GoodAddress subject reply → GoodShort sid → n ≤ most_payload → Back (said FromServer) (worded (codes "MSG") (subject ∷ sid ∷ onto_some reply (decimal n ∷ []))) (Carries (Delivery false sid subject reply) 0 n)
 msg_back subject sid None n g s le =
     let all = sid_fields subject sid None (decimal n ∷ []) g s (one_size n (omega arith)) in
     record {
@@ -161,7 +104,7 @@ msg_back subject sid (Some reply) n g s le =
           ∙ delivery_back false subject sid (Some reply) 0 n (Some 0) (size_of (decimal n)) g s refl (size_decimal n (omega arith)) (omega arith) le;
     }
 
-hmsg_back : (subject sid : List ℕ) (reply : Option (List ℕ)) (m n : ℕ) → GoodAddress subject reply → GoodShort sid → m ≤ n → n ≤ most_payload → Back FromServer (worded (codes "HMSG") (subject ∷ sid ∷ onto_some reply (decimal m ∷ decimal n ∷ []))) (Carries (Delivery true sid subject reply) m n)
+hmsg_back : (subject sid : List ℕ) (reply : Option (List ℕ)) (m n : ℕ) → GoodAddress subject reply → GoodShort sid → m ≤ n → n ≤ most_payload → Back (said FromServer) (worded (codes "HMSG") (subject ∷ sid ∷ onto_some reply (decimal m ∷ decimal n ∷ []))) (Carries (Delivery true sid subject reply) m n)
 hmsg_back subject sid None m n g s within le =
     let all = sid_fields subject sid None (decimal m ∷ decimal n ∷ []) g s (two_sizes m n (omega arith) (omega arith)) in
     record {
@@ -182,7 +125,7 @@ sub_says pattern queue sid p q s =
     cond-true (option_map_or is_short queue true && is_short sid) (cond (is_pattern pattern) (Whole (Sub pattern queue sid)) (Whole BadSubject)) (Unfit ParserError) (and_from (option_map_or is_short queue true) (is_short sid) q s)
     ∙ cond-true (is_pattern pattern) (Whole (Sub pattern queue sid)) (Whole BadSubject) p
 
-sub_back : (pattern : List ℕ) (queue : Option (List ℕ)) (sid : List ℕ) → is_pattern pattern ≡ true → is_field pattern ≡ true → GoodQueue queue → GoodShort sid → Back FromClient (worded (codes "SUB") (pattern ∷ onto_some queue (sid ∷ []))) (Whole (Sub pattern queue sid))
+sub_back : (pattern : List ℕ) (queue : Option (List ℕ)) (sid : List ℕ) → is_pattern pattern ≡ true → is_field pattern ≡ true → GoodQueue queue → GoodShort sid → Back (said FromClient) (worded (codes "SUB") (pattern ∷ onto_some queue (sid ∷ []))) (Whole (Sub pattern queue sid))
 sub_back pattern None sid p f q s =
     let all = and_from (is_field pattern) (list_all is_field (sid ∷ [])) f (and_from (is_field sid) true s.field_is refl) in
     record {
@@ -196,7 +139,7 @@ sub_back pattern (Some queue) sid p f q s =
       says = says_worded FromClient (codes "SUB") (pattern ∷ queue ∷ sid ∷ []) refl all ∙ sub_says pattern (Some queue) sid p q.short s.short;
     }
 
-unsub_back : (sid : List ℕ) (max : Option ℕ) → GoodShort sid → GoodCount max → Back FromClient (worded (codes "UNSUB") (sid ∷ count_fields max)) (Whole (Unsub sid max))
+unsub_back : (sid : List ℕ) (max : Option ℕ) → GoodShort sid → GoodCount max → Back (said FromClient) (worded (codes "UNSUB") (sid ∷ count_fields max)) (Whole (Unsub sid max))
 unsub_back sid None s c =
     let all = and_from (is_field sid) true s.field_is refl in
     record {
@@ -214,20 +157,7 @@ unsub_back sid (Some max) s c =
           ∙ (ap (ended_after sid) (size_decimal max small) ∙ cond-true (nat_lt 0 max) (Whole (Unsub sid (Some max))) (Unfit ParserError) (lt-ltb 0 max some)));
     }
 
--- a text in quotes
-quoted_back : (t : List ℕ) → quoted (39 ∷ (t ++ 39 ∷ [])) ≡ Some t
-quoted_back t =
-    let q : List ℕ = 39 ∷ (t ++ 39 ∷ []) in
-    let len : length (t ++ 39 ∷ []) ≡ length t + 1 = length-append t (39 ∷ []) in
-    let m : length q - 1 ≡ length (39 ∷ t) = omega (arith, len) in
-    let k : length q - 2 ≡ length t = omega (arith, len) in
-    let last : get_or q (length q - 1) 0 ≡ 39 = ap (λ i. get_or q i 0) m ∙ get_or-append_seam (39 ∷ t) 39 [] 0 in
-    let test = and_from (nat_lt 1 (length q) && get_or q 0 0 == 39) (get_or q (length q - 1) 0 == 39)
-    (and_from (nat_lt 1 (length q)) (get_or q 0 0 == 39) (lt-ltb 1 (length q) (omega (arith, len))) refl) (eq-eqb (get_or q (length q - 1) 0) 39 last) in
-    cond-true (nat_lt 1 (length q) && get_or q 0 0 == 39 && get_or q (length q - 1) 0 == 39) (Some (take (length q - 2) (drop 1 q))) None test
-    ∙ ap (λ x. Some x) (ap (λ i. take i (drop 1 q)) k ∙ take-append_seam t (39 ∷ []))
-
-fault_back : (t : List ℕ) → has_no_feed t ≡ true → Back FromServer (codes "-ERR '" ++ t ++ 39 ∷ []) (Whole (Fault t))
+fault_back : (t : List ℕ) → has_no_feed t ≡ true → Back (said FromServer) (codes "-ERR '" ++ t ++ 39 ∷ []) (Whole (Fault t))
 fault_back t free =
     let q : List ℕ = 39 ∷ (t ++ 39 ∷ []) in
     let line : List ℕ = codes "-ERR" ++ 32 ∷ q in
@@ -237,7 +167,7 @@ fault_back t free =
       says = ap (said_by FromServer line) (first_field (codes "-ERR") q refl) ∙ (ap (λ a. fault (quoted a)) trim ∙ ap fault (quoted_back t));
     }
 
-connect_back : (v h n e : Bool) → Back FromClient (codes "CONNECT " ++ compact_text (connect_data v h n e)) (Whole (Connect v h n e))
+connect_back : (v h n e : Bool) → Back (said FromClient) (codes "CONNECT " ++ compact_text (connect_data v h n e)) (Whole (Connect v h n e))
 connect_back v h n e =
     let json : List ℕ = compact_text (connect_data v h n e) in
     let line : List ℕ = codes "CONNECT" ++ 32 ∷ json in
@@ -248,7 +178,7 @@ connect_back v h n e =
           ∙ (ap (λ a. whole_or ParserError (option_and_then connect_of (object_of a))) trim ∙ ap (whole_or ParserError) (connect_read v h n e));
     }
 
-info_back : (info : ServerInfo) → GoodServer info → Back FromServer (codes "INFO " ++ compact_text (info_data info)) (Whole (Info info))
+info_back : (info : ServerInfo) → GoodServer info → Back (said FromServer) (codes "INFO " ++ compact_text (info_data info)) (Whole (Info info))
 info_back info g =
     let json : List ℕ = compact_text (info_data info) in
     let line : List ℕ = codes "INFO" ++ 32 ∷ json in
@@ -259,15 +189,15 @@ info_back info g =
           ∙ (ap (λ a. whole_or ParserError (option_and_then info_of (object_of a))) trim ∙ ap (whole_or ParserError) (info_read info g));
     }
 
-ping_back : (side : Side) → Back side (codes "PING") (Whole Ping)
+ping_back : (side : Side) → Back (said side) (codes "PING") (Whole Ping)
 ping_back FromClient = record { free = refl; says = refl }
 ping_back FromServer = record { free = refl; says = refl }
 
-pong_back : (side : Side) → Back side (codes "PONG") (Whole Pong)
+pong_back : (side : Side) → Back (said side) (codes "PONG") (Whole Pong)
 pong_back FromClient = record { free = refl; says = refl }
 pong_back FromServer = record { free = refl; says = refl }
 
-okay_back : Back FromServer (codes "+OK") (Whole Okay)
+okay_back : Back (said FromServer) (codes "+OK") (Whole Okay)
 okay_back = record { free = refl; says = refl }
 
 and_false : (b : Bool) → (b && false) ≡ false
@@ -277,40 +207,13 @@ and_false false = refl
 bad_pattern : is_pattern (codes ".") ≡ false
 bad_pattern = and_false (is_utf8 (codes "."))
 
-bad_back : Back FromClient (codes "SUB . 1") (Whole BadSubject)
+bad_back : Back (said FromClient) (codes "SUB . 1") (Whole BadSubject)
 bad_back = record { free = refl; says = cond-false (is_pattern (codes ".")) (Whole (Sub (codes ".") None (codes "1"))) (Whole BadSubject) bad_pattern }
 
 -- ---- a frame
 
--- the bytes of a frame, with others behind them, by lines
-regroup : (line rest behind : List ℕ) → (line ++ crlf ++ rest) ++ behind ≡ line ++ 13 ∷ 10 ∷ (rest ++ behind)
-regroup line rest behind = append_assoc (line ++ crlf) rest behind ∙ append_assoc line crlf (rest ++ behind)
-
-whole_length : (line rest : List ℕ) → length (line ++ crlf ++ rest) ≡ length line + 2 + length rest
-whole_length line rest = length-append (line ++ crlf) rest ∙ ap (λ n. n + length rest) (length-append line crlf)
-
--- a frame without a payload
-line_again : (side : Side) (line : List ℕ) (frame : ClientFrame) (behind : List ℕ) → Back side line (Whole frame) → length line ≤ most_line → first side ((line ++ crlf ++ []) ++ behind) ≡ Frame frame (length (line ++ crlf ++ []))
-line_again side line frame behind b le =
-    ap (first side) (regroup line [] behind) ∙ (written_line side line behind b.free le
-    ∙ (ap (decided framed (length line + 2) behind) b.says ∙ ap (λ n. Frame frame n) (omega (arith, whole_length line []))))
-
--- a frame with one
-body_again : (side : Side) (line block payload : List ℕ) (e : Envelope) (headers : HeaderBlock) (n : ℕ) (behind : List ℕ) → Back side line (Carries e (length block) n) → n ≡ length block + length payload → read_block block ≡ Ok headers → length line ≤ most_line
-    → first side ((line ++ crlf ++ body block payload) ++ behind) ≡ Frame (framed e headers payload) (length (line ++ crlf ++ body block payload))
-body_again side line block payload e headers n behind b size h le =
-    let rest : List ℕ = body block payload in
-    let len : length rest ≡ n + 2 = length-append (block ++ payload) crlf ∙ ap (λ k. k + 2) (length-append block payload ∙ sym size) in
-    ap (first side) (regroup line rest behind) ∙ (written_line side line (rest ++ behind) b.free le
-    ∙ (ap (decided framed (length line + 2) (rest ++ behind)) b.says ∙ (written_body (framed e) (length line + 2) n block payload behind headers size h
-    ∙ ap (λ k. Frame (framed e headers payload) k) (omega (arith, whole_length line rest, len)))))
-
 parcels : (p : Parcel) (headers : HeaderBlock) → p.headers ≡ headers → record { subject = p.subject; reply = p.reply; headers = headers; payload = p.payload } ≡ p
 parcels p headers h = λ i. record { subject = p.subject; reply = p.reply; headers = sym h i; payload = p.payload }
-
--- headers that are written are read again
-abbrev pub ReadsAgain : Type 0
-ReadsAgain = (block : HeaderBlock) → is_header_block block ≡ true → read_block (written block) ≡ Ok block
 
 abbrev Again : Side → ClientFrame → Type 0
 Again side frame = (behind : List ℕ) → first side (text frame ++ behind) ≡ Frame frame (length (text frame))
@@ -322,43 +225,43 @@ other_side : FromServer ≡ FromClient → ⊥
 other_side e = cc
 
 client_again : (frame : ClientFrame) → ReadsAgain → Good FromClient frame → IsWithinBounds frame → Again FromClient frame
-client_again (Connect v h n e) reads g w behind = line_again FromClient (line_of (Connect v h n e)) (Connect v h n e) behind (connect_back v h n e) w.line
+client_again (Connect v h n e) reads g w behind = line_again most_line (said FromClient) framed (line_of (Connect v h n e)) (Connect v h n e) behind (connect_back v h n e) w.line
 client_again (Info info) reads g w behind = absurd (two_sides g.0)
 client_again (Pub p) reads g w behind =
-    body_again FromClient (line_of (Pub p)) [] p.payload (Publication false p.subject p.reply) no_headers (length p.payload) behind (pub_back p.subject p.reply (length p.payload) g.1 w.payload) (omega arith) refl w.line
+    body_again most_line (said FromClient) framed (line_of (Pub p)) [] p.payload (Publication false p.subject p.reply) no_headers (length p.payload) behind (pub_back p.subject p.reply (length p.payload) g.1 w.payload) (omega arith) refl w.line
     ∙ ap (λ x. Frame (Pub x) (length (text (Pub p)))) (parcels p no_headers g.2)
 client_again (HPub p) reads g w behind =
     let m : ℕ = length (written p.headers) in
     let n : ℕ = m + length p.payload in
-    body_again FromClient (line_of (HPub p)) (written p.headers) p.payload (Publication true p.subject p.reply) p.headers n behind (hpub_back p.subject p.reply m n g.1 (omega arith) w.payload) refl (reads p.headers g.2) w.line
-client_again (Sub pattern queue sid) reads g w behind = line_again FromClient (line_of (Sub pattern queue sid)) (Sub pattern queue sid) behind (sub_back pattern queue sid g.1 g.2 g.3 g.4) w.line
-client_again (Unsub sid max) reads g w behind = line_again FromClient (line_of (Unsub sid max)) (Unsub sid max) behind (unsub_back sid max g.1 g.2) w.line
+    body_again most_line (said FromClient) framed (line_of (HPub p)) (written p.headers) p.payload (Publication true p.subject p.reply) p.headers n behind (hpub_back p.subject p.reply m n g.1 (omega arith) w.payload) refl (reads p.headers g.2) w.line
+client_again (Sub pattern queue sid) reads g w behind = line_again most_line (said FromClient) framed (line_of (Sub pattern queue sid)) (Sub pattern queue sid) behind (sub_back pattern queue sid g.1 g.2 g.3 g.4) w.line
+client_again (Unsub sid max) reads g w behind = line_again most_line (said FromClient) framed (line_of (Unsub sid max)) (Unsub sid max) behind (unsub_back sid max g.1 g.2) w.line
 client_again (Msg sid p) reads g w behind = absurd (two_sides g.0)
 client_again (HMsg sid p) reads g w behind = absurd (two_sides g.0)
-client_again Ping reads g w behind = line_again FromClient (codes "PING") Ping behind (ping_back FromClient) w.line
-client_again Pong reads g w behind = line_again FromClient (codes "PONG") Pong behind (pong_back FromClient) w.line
+client_again Ping reads g w behind = line_again most_line (said FromClient) framed (codes "PING") Ping behind (ping_back FromClient) w.line
+client_again Pong reads g w behind = line_again most_line (said FromClient) framed (codes "PONG") Pong behind (pong_back FromClient) w.line
 client_again Okay reads g w behind = absurd (two_sides g)
 client_again (Fault t) reads g w behind = absurd (two_sides g.0)
-client_again BadSubject reads g w behind = line_again FromClient (codes "SUB . 1") BadSubject behind bad_back w.line
+client_again BadSubject reads g w behind = line_again most_line (said FromClient) framed (codes "SUB . 1") BadSubject behind bad_back w.line
 
 server_again : (frame : ClientFrame) → ReadsAgain → Good FromServer frame → IsWithinBounds frame → Again FromServer frame
 server_again (Connect v h n e) reads g w behind = absurd (other_side g)
-server_again (Info info) reads g w behind = line_again FromServer (line_of (Info info)) (Info info) behind (info_back info g.1) w.line
+server_again (Info info) reads g w behind = line_again most_line (said FromServer) framed (line_of (Info info)) (Info info) behind (info_back info g.1) w.line
 server_again (Pub p) reads g w behind = absurd (other_side g.0)
 server_again (HPub p) reads g w behind = absurd (other_side g.0)
 server_again (Sub pattern queue sid) reads g w behind = absurd (other_side g.0)
 server_again (Unsub sid max) reads g w behind = absurd (other_side g.0)
 server_again (Msg sid p) reads g w behind =
-    body_again FromServer (line_of (Msg sid p)) [] p.payload (Delivery false sid p.subject p.reply) no_headers (length p.payload) behind (msg_back p.subject sid p.reply (length p.payload) g.2 g.1 w.payload) (omega arith) refl w.line
+    body_again most_line (said FromServer) framed (line_of (Msg sid p)) [] p.payload (Delivery false sid p.subject p.reply) no_headers (length p.payload) behind (msg_back p.subject sid p.reply (length p.payload) g.2 g.1 w.payload) (omega arith) refl w.line
     ∙ ap (λ x. Frame (Msg sid x) (length (text (Msg sid p)))) (parcels p no_headers g.3)
 server_again (HMsg sid p) reads g w behind =
     let m : ℕ = length (written p.headers) in
     let n : ℕ = m + length p.payload in
-    body_again FromServer (line_of (HMsg sid p)) (written p.headers) p.payload (Delivery true sid p.subject p.reply) p.headers n behind (hmsg_back p.subject sid p.reply m n g.2 g.1 (omega arith) w.payload) refl (reads p.headers g.3) w.line
-server_again Ping reads g w behind = line_again FromServer (codes "PING") Ping behind (ping_back FromServer) w.line
-server_again Pong reads g w behind = line_again FromServer (codes "PONG") Pong behind (pong_back FromServer) w.line
-server_again Okay reads g w behind = line_again FromServer (codes "+OK") Okay behind okay_back w.line
-server_again (Fault t) reads g w behind = line_again FromServer (line_of (Fault t)) (Fault t) behind (fault_back t g.1) w.line
+    body_again most_line (said FromServer) framed (line_of (HMsg sid p)) (written p.headers) p.payload (Delivery true sid p.subject p.reply) p.headers n behind (hmsg_back p.subject sid p.reply m n g.2 g.1 (omega arith) w.payload) refl (reads p.headers g.3) w.line
+server_again Ping reads g w behind = line_again most_line (said FromServer) framed (codes "PING") Ping behind (ping_back FromServer) w.line
+server_again Pong reads g w behind = line_again most_line (said FromServer) framed (codes "PONG") Pong behind (pong_back FromServer) w.line
+server_again Okay reads g w behind = line_again most_line (said FromServer) framed (codes "+OK") Okay behind okay_back w.line
+server_again (Fault t) reads g w behind = line_again most_line (said FromServer) framed (line_of (Fault t)) (Fault t) behind (fault_back t g.1) w.line
 server_again BadSubject reads g w behind = absurd (other_side g)
 
 -- a good frame is read from its text

@@ -72,6 +72,10 @@ TakenAreFront {F} first = (bytes : List ℕ) (taken : List F) (rest : List ℕ) 
 
 -- ---- laws of client connections
 
+-- a reading of a side gives frames of this side alone
+abbrev pub GivesFramesOf : Type 0
+GivesFramesOf = (side : Side) (bytes : List ℕ) (frame : ClientFrame) (len : ℕ) → first side bytes ≡ Frame frame len → IsOf side frame
+
 -- a frame that a reading gives, and whose text is within the bounds, is read again from its text,
 -- whatever stands behind it
 abbrev pub ReadsItsText : Type 0

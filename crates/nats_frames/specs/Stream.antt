@@ -35,6 +35,10 @@ carried frame line block size behind =
     if nat_lt (length behind) (size + 2) then More (line + size + 2)
     else (if bytes_eq (take 2 (drop size behind)) crlf then opened frame (line + size + 2) block (take size behind) else Refuse ParserError)
 
+-- lines and messages of any kind of connection are no longer than this, in bytes
+abbrev pub most_message : ℕ
+most_message = 4294967295
+
 -- headers and a payload
 abbrev pub message_of : HeaderBlock → List ℕ → HeaderBlock × List ℕ
 message_of headers payload = (headers, payload)

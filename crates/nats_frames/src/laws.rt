@@ -2,7 +2,7 @@
 ghost use Rattle.nats_frames.specs.declared.frame.Side.{Side as Sender};
 ghost use Rattle.nats_frames.specs.Frames.{first};
 ghost use Rattle.nats_frames.specs.Runs.{FeedsStand, FeedsGiveFront};
-ghost use Rattle.nats_frames.specs.Laws.{FramesAreWithin, FramesStay, RefusalsStay, WantsMore, WishesStay, TakesStay, TakesNext, TakenAreFront, ReadsEachText, ReadsItsText};
+ghost use Rattle.nats_frames.specs.Laws.{FramesAreWithin, FramesStay, RefusalsStay, WantsMore, WishesStay, TakesStay, TakesNext, TakenAreFront, GivesFramesOf, ReadsEachText, ReadsItsText};
 
 use nats_text::laws::header_blocks;
 
@@ -33,8 +33,9 @@ pub fn streams()
 {}
 
 /// A frame is read from its written text, whatever stands behind it: each one that a side may send, and so
-/// each one that was read before.
+/// each one that was read before, since a reading gives no others.
 pub fn written_frames()
+    ensures kinds { GivesFramesOf }
     ensures each { ReadsEachText }
     ensures again { ReadsItsText }
 {

@@ -56,8 +56,8 @@ fn if_object(value: Value) -> Option<Value>
     }
 }
 
-// A switch, which is as given where it is absent.
-fn switch_at(value: &Value, name: &str, absent: bool) -> Option<bool>
+/// A switch, which is as given where it is absent.
+pub fn switch_at(value: &Value, name: &str, absent: bool) -> Option<bool>
     ensures { result ≡ switch_at name.now absent (view value.now) }
 {
     match value.get(name) {

@@ -182,8 +182,8 @@ fn delivered(
     }
 }
 
-// A subject, and a reply where there is one, where both can be read.
-fn address(
+/// A subject, and a reply where there is one, where both can be read.
+pub fn address(
     alloc: Global,
     subject: &[u8],
     reply: Option<&[u8]>,

@@ -23,7 +23,7 @@ pub(crate) enum Operation {
 
 /// What a line says of a message before its header block and its payload are there.
 #[derive(Drop)]
-pub(crate) enum Envelope {
+pub enum Envelope {
     Publication {
         headers: bool,
         subject: Subject,

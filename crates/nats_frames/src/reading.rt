@@ -3,11 +3,12 @@ ghost use Rattle.std.specs.Prelude.{◌≡◌, ◌+◌, ◌^◌, ◌<◌, ◌≤
 ghost use Rattle.std.specs.Str.{bytes_eq};
 ghost use Rattle.nats_text.specs.Headers.{crlf};
 ghost use Rattle.nats_frames.specs.Lines.{has_no_feed};
-ghost use Rattle.nats_frames.specs.Stream.{IsFit, carried, opened, message_of, in_envelope, decided, first_of};
-ghost use Rattle.nats_frames.specs.Frames.{framed, first, said, most_line, most_payload};
+ghost use Rattle.nats_frames.specs.Stream.{IsFit, most_message, carried, opened, message_of, in_envelope, decided, first_of, first_by};
+ghost use Rattle.nats_frames.specs.Frames.{framed, first};
 
 use crate::line::line_end;
 use crate::operation::Envelope;
+use crate::protocol::Protocol;
 use crate::said::{Line, said};
 use crate::{ClientFrame, First, FrameText, LineEnd, Said, Side};
 use nats_text::{Bytes, Headers, NoMemory, Parcel, Subject, TextFault};
@@ -16,27 +17,55 @@ use std::alloc::Global;
 /// The greatest length of a line before its CR LF, in bytes.
 const MOST_LINE: usize = 4096;
 
+/// How the lines of a side of a client connection are read.
+impl Protocol for Side {
+    ghost use Rattle.nats_frames.specs.Frames.{most_line, said, framed};
+
+    type Frame = ClientFrame;
+
+    type Envelope = Envelope;
+
+    ghost most = { most_line };
+
+    ghost said = { said };
+
+    ghost framed = { framed };
+
+    fn most_line(&self) -> usize {
+        MOST_LINE
+    }
+
+    fn said(&self, alloc: Global, line: &[u8]) -> Result<Line, NoMemory> {
+        said(alloc, *self, line)
+    }
+
+    fn framed(&self, envelope: Envelope, headers: Headers, payload: Bytes) -> ClientFrame {
+        framed(envelope, headers, payload)
+    }
+}
+
 /// What bytes of this side begin with: a frame and its length, the wish for more bytes, or a refusal
 /// (the NATS client protocol).
 pub fn beginning(alloc: Global, side: Side, bytes: &[u8]) -> Result<First<ClientFrame>, NoMemory>
     ensures { IfOk result (λ it. it ≡ first side bytes.now) }
 {
-    beginning_from(alloc, side, bytes, 0)
+    beginning_from(&side, alloc, bytes, 0)
 }
 
-/// The same, where no LF is among the first `looked` bytes, which aren't looked at again for one.
-pub(crate) fn beginning_from(
+/// What bytes of any kind of connection begin with, where no LF is among the first `looked` of them,
+/// which aren't looked at again for one.
+pub fn beginning_from<P: Protocol>(
+    protocol: &P,
     alloc: Global,
-    side: Side,
     bytes: &[u8],
     looked: usize,
-) -> Result<First<ClientFrame>, NoMemory>
+) -> Result<First<P::Frame>, NoMemory>
     requires looked { looked ≤ length bytes.now }
     requires none { IsTrue (has_no_feed (take looked bytes.now)) }
-    ensures { IfOk result (λ it. it ≡ first side bytes.now) }
+    ensures { IfOk result (λ it. it ≡ first_by P.most (P.said protocol.now) P.framed bytes.now) }
 {
-    match line_end(bytes, MOST_LINE, looked) {
-        LineEnd::At(at) => beginning_at(alloc, side, bytes, at),
+    match line_end(bytes, protocol.most_line(), looked) {
+        LineEnd::At(at) => beginning_at(protocol, alloc, bytes, at),
         LineEnd::Missing => Ok(First::More {
             wanted: bytes.len() + 1,
         }),
@@ -45,30 +74,31 @@ pub(crate) fn beginning_from(
 }
 
 // What bytes begin with whose first line ends at this place.
-fn beginning_at(
+fn beginning_at<P: Protocol>(
+    protocol: &P,
     alloc: Global,
-    side: Side,
     bytes: &[u8],
     at: usize,
-) -> Result<First<ClientFrame>, NoMemory>
+) -> Result<First<P::Frame>, NoMemory>
     requires within { at + 2 ≤ length bytes.now }
-    requires bound { at ≤ most_line }
-    ensures { IfOk result (λ it. it ≡ first_of (said side) framed bytes.now (LineEnd.At at)) }
+    requires bound { at ≤ most_message }
+    ensures { IfOk result (λ it. it ≡ first_of (P.said protocol.now) P.framed bytes.now (LineEnd.At at)) }
 {
-    let line = said(alloc, side, &bytes[..at])?;
-    decided(alloc, at + 2, &bytes[at + 2..], line)
+    let line = protocol.said(alloc, &bytes[..at])?;
+    decided(protocol, alloc, at + 2, &bytes[at + 2..], line)
 }
 
 // The frame of what a line of so many bytes says, and of the bytes behind it.
-fn decided(
+fn decided<P: Protocol>(
+    protocol: &P,
     alloc: Global,
     len: usize,
     behind: &[u8],
-    line: Line,
-) -> Result<First<ClientFrame>, NoMemory>
-    requires fit { IsFit most_payload line }
-    requires bound { len ≤ most_line + 2 }
-    ensures { IfOk result (λ it. it ≡ decided framed len behind.now line) }
+    line: Said<P::Frame, P::Envelope>,
+) -> Result<First<P::Frame>, NoMemory>
+    requires fit { IsFit most_message line }
+    requires bound { len ≤ most_message + 2 }
+    ensures { IfOk result (λ it. it ≡ decided P.framed len behind.now line) }
 {
     match line {
         Said::Whole(frame) => Ok(First::Frame { frame, len }),
@@ -77,19 +107,27 @@ fn decided(
             envelope,
             block,
             size,
-        } => Ok(in_envelope(envelope, carried(alloc, len, block, size, behind)?)),
+        } => Ok(in_envelope(
+            protocol,
+            envelope,
+            carried(alloc, len, block, size, behind)?,
+        )),
     }
 }
 
-fn in_envelope(envelope: Envelope, message: First<(Headers, Bytes)>) -> First<ClientFrame>
-    ensures { result ≡ in_envelope (framed envelope) message }
+fn in_envelope<P: Protocol>(
+    protocol: &P,
+    envelope: P::Envelope,
+    message: First<(Headers, Bytes)>,
+) -> First<P::Frame>
+    ensures { result ≡ in_envelope (P.framed envelope) message }
 {
     match message {
         First::Frame {
             frame: (headers, payload),
             len,
         } => First::Frame {
-            frame: framed(envelope, headers, payload),
+            frame: protocol.framed(envelope, headers, payload),
             len,
         },
         First::More { wanted } => First::More { wanted },

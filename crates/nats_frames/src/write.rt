@@ -140,7 +140,8 @@ fn append_unsubscribe(buf: &mut Vec<u8>, sid: &[u8], max: Option<u64>) -> Result
     }
 }
 
-fn append_fault(buf: &mut Vec<u8>, text: &[u8]) -> Result<(), NoMemory>
+/// `-ERR` and a text in single quotes.
+pub fn append_fault(buf: &mut Vec<u8>, text: &[u8]) -> Result<(), NoMemory>
     ensures ok { OnOk result (buf.new.items ≡ buf.old.items ++ line_of (ClientFrame.Fault text.now)) }
     ensures err { OnErr result (Extends buf.old.items buf.new.items) }
 {
@@ -163,7 +164,8 @@ fn append_body(frame: &ClientFrame, buf: &mut Vec<u8>) -> Result<(), NoMemory>
     }
 }
 
-fn append_block(buf: &mut Vec<u8>, parcel: &Parcel) -> Result<(), NoMemory>
+/// The header block and the payload of a message, and CR LF.
+pub fn append_block(buf: &mut Vec<u8>, parcel: &Parcel) -> Result<(), NoMemory>
     ensures ok { OnOk result (buf.new.items ≡ buf.old.items ++ body (written parcel.now.headers) parcel.now.payload) }
     ensures err { OnErr result (Extends buf.old.items buf.new.items) }
 {
@@ -179,8 +181,8 @@ fn append_payload(buf: &mut Vec<u8>, payload: &[u8]) -> Result<(), NoMemory>
     append(buf, b"\r\n")
 }
 
-// A field behind a space.
-fn append_field(buf: &mut Vec<u8>, field: &[u8]) -> Result<(), NoMemory>
+/// A field behind a space.
+pub fn append_field(buf: &mut Vec<u8>, field: &[u8]) -> Result<(), NoMemory>
     ensures ok { OnOk result (buf.new.items ≡ buf.old.items ++ 32 ∷ field.now) }
     ensures err { OnErr result (Extends buf.old.items buf.new.items) }
 {
@@ -198,7 +200,8 @@ fn append_reply(buf: &mut Vec<u8>, reply: &Option<Subject>) -> Result<(), NoMemo
     }
 }
 
-fn append_number(buf: &mut Vec<u8>, number: u64) -> Result<(), NoMemory>
+/// A number as a field.
+pub fn append_number(buf: &mut Vec<u8>, number: u64) -> Result<(), NoMemory>
     ensures ok { OnOk result (buf.new.items ≡ buf.old.items ++ 32 ∷ decimal number) }
     ensures err { OnErr result (Extends buf.old.items buf.new.items) }
 {
@@ -206,9 +209,9 @@ fn append_number(buf: &mut Vec<u8>, number: u64) -> Result<(), NoMemory>
     append_field(buf, digits.format(number).as_bytes())
 }
 
-// The length of the header block, and of it and the payload together. What is too long for memory is
-// told before anything is written of it.
-fn append_sizes(buf: &mut Vec<u8>, headers: &Headers, payload: &[u8]) -> Result<(), NoMemory>
+/// The length of the header block, and of it and the payload together. What is too long for memory is
+/// told before anything is written of it.
+pub fn append_sizes(buf: &mut Vec<u8>, headers: &Headers, payload: &[u8]) -> Result<(), NoMemory>
     ensures ok { OnOk result (buf.new.items ≡ buf.old.items ++ behind_spaces (both_sizes headers.now payload.now)) }
     ensures err { OnErr result (Extends buf.old.items buf.new.items) }
 {
@@ -223,7 +226,8 @@ fn append_sizes(buf: &mut Vec<u8>, headers: &Headers, payload: &[u8]) -> Result<
     append_number(buf, size as u64)
 }
 
-pub(crate) fn append(buf: &mut Vec<u8>, bytes: &[u8]) -> Result<(), NoMemory>
+/// Bytes as they are.
+pub fn append(buf: &mut Vec<u8>, bytes: &[u8]) -> Result<(), NoMemory>
     ensures ok { OnOk result (buf.new.items ≡ buf.old.items ++ bytes.now) }
     ensures err { OnErr result (buf.new.items ≡ buf.old.items) }
 {

@@ -72,7 +72,8 @@ fn info_value(alloc: Global, info: &ServerInfo) -> Result<Value, AllocError>
     })
 }
 
-fn name_text(name: &Name) -> &str
+/// A name as a text.
+pub fn name_text(name: &Name) -> &str
     ensures { result.now ≡ name.now }
 {
     as_text(name.bytes())
@@ -89,8 +90,8 @@ fn as_text(bytes: &[u8]) -> &str
     }
 }
 
-// The text of JSON without fractions.
-fn append_json(buf: &mut Vec<u8>, value: &Value) -> Result<(), NoMemory>
+/// The text of JSON without fractions.
+pub fn append_json(buf: &mut Vec<u8>, value: &Value) -> Result<(), NoMemory>
     requires { has_float (view value.now) ≡ false }
     ensures ok { OnOk result (buf.new.items ≡ buf.old.items ++ compact_text (view value.now)) }
     ensures err { OnErr result (buf.new.items ≡ buf.old.items) }

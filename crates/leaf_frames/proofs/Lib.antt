@@ -1,0 +1,6 @@
+mod Addresses
+mod Fieldings
+mod Givings
+mod Splits
+mod Written
+mod WrittenMessages

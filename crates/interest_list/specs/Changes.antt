@@ -13,13 +13,15 @@ use Rattle.interest_list.specs.Orders.{placed}
 use Rattle.interest_list.specs.Lists.{Interests, subscription_cmp, is_of_client, is_of_link, is_of_node, is_of, is_full, max_weight}
 use Rattle.interest_list.specs.Tellings.{news, informed}
 
--- what a client, a link and the node itself want
+-- what a client wants
 abbrev pub of_client : ℕ → List ℕ → List ℕ → Option (List ℕ) → Subscription
 of_client conn sid pattern queue = record { holder = Client conn sid; pattern = pattern; queue = queue; weight = 1 }
 
+-- what a link wants
 abbrev pub of_link : ℕ → List ℕ → Option (List ℕ) → ℕ → Subscription
 of_link conn pattern queue weight = record { holder = Link conn; pattern = pattern; queue = queue; weight = weight }
 
+-- what the node itself wants
 abbrev pub of_node : List ℕ → Subscription
 of_node pattern = record { holder = Inner; pattern = pattern; queue = None; weight = 1 }
 
@@ -27,7 +29,7 @@ of_node pattern = record { holder = Inner; pattern = pattern; queue = None; weig
 abbrev pub is_weight : ℕ → Bool
 is_weight weight = nat_lt 0 weight && nat_le weight max_weight
 
--- the change brings no other weight
+-- where the change brings a weight, a group may have it
 abbrev pub has_weight : Change → Bool
 has_weight (LinkOn conn pattern queue weight) = is_weight weight
 has_weight (Add conn sid pattern queue) = true

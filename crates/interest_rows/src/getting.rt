@@ -82,8 +82,14 @@ fn each_gets_a_message_once(rt: HostRuntime) -> Result<(), Fail> {
         ("w 6 - inner", " client v link+q"),
         ("w 7 - inner", " client v link+q"),
         ("w 7 - link 7", " client x client v"),
-        ("a.b 0 - inner", " client y client z client v link link+s inner"),
-        ("a.b 1 - inner", " client y client z link link+r link+s inner"),
+        (
+            "a.b 0 - inner",
+            " client y client z client v link link+s inner",
+        ),
+        (
+            "a.b 1 - inner",
+            " client y client z link link+r link+s inner",
+        ),
         ("a.b 3 - inner", " client y client z link link+r+s inner"),
         ("a.b 3 s,t inner", " client y client z link link+s inner"),
         ("a.b 3 t client 1", " client y client z link inner"),

@@ -1,6 +1,6 @@
 -- The member of a group in whose weight a number falls.
 use Rattle.std.proofs.Common.{◌≡◌, ℕ, ◌+◌, ◌-◌, false, cond, List, [], ◌∷◌, refl, sym, ap, ◌∙◌, arith, nat_lt}
-use Rattle.std.specs.Prelude.{Option, Some, None}
+use Rattle.std.specs.Prelude.{Some, None}
 use Rattle.std.proofs.lemmas.List.Sums.{sum_by-cons}
 use Rattle.interest_list.specs.declared.subscription.Subscription.{Subscription}
 use Rattle.interest_list.specs.Targets.{weights, at_weight}

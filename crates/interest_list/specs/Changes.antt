@@ -1,5 +1,5 @@
 -- What a change makes of the list of subscriptions, and where it is refused.
-use Rattle.std.specs.Prelude.{◌≡◌, ◌⊎◌, ℕ, ◌==◌, Bool, true, false, ◌&&◌, ◌||◌, not, nat_lt, nat_le, List, [], ◌∷◌, ◌++◌, Option, Some, None, Result, Ok, Err, filter, map, if◌then◌else◌, ⊤, MatchResult}
+use Rattle.std.specs.Prelude.{◌≡◌, ◌⊎◌, ℕ, ◌==◌, Bool, true, ◌&&◌, not, nat_lt, nat_le, List, [], ◌∷◌, ◌++◌, Option, Some, None, Result, Err, filter, map, if◌then◌else◌, ⊤, MatchResult}
 use Rattle.std.specs.List.{list_any}
 use Rattle.leaf_frames.specs.declared.frame.LeafFrame.{LeafFrame}
 use Rattle.interest_list.specs.declared.subscription.Holder.TheVariants.{Client, Link, Inner}

@@ -1,10 +1,9 @@
 -- The list of subscriptions: its order, and what stands in it.
 use Rattle.std.specs.Prelude.{ℕ, ◌==◌, ◌&&◌, Bool, true, false, nat_le, List, [], length, Option, None, Some}
-use Rattle.std.specs.List.{list_any}
 use Rattle.std.specs.Str.{bytes_eq}
 use Rattle.std.specs.Ordering.{nat_cmp, ordering_then}
 use Rattle.std.specs.declared.cmp.Ordering.{Ordering}
-use Rattle.std.specs.declared.cmp.Ordering.TheVariants.{Less, Equal, Greater}
+use Rattle.std.specs.declared.cmp.Ordering.TheVariants.{Less, Greater}
 use Rattle.interest_list.specs.declared.subscription.Holder.{Holder}
 use Rattle.interest_list.specs.declared.subscription.Holder.TheVariants.{Client, Link, Inner}
 use Rattle.interest_list.specs.declared.subscription.Subscription.{Subscription}

@@ -1,5 +1,5 @@
 -- What a link is told, over the plain list of subscriptions, and the frames that tell it what has changed.
-use Rattle.std.specs.Prelude.{ℕ, ◌==◌, Bool, true, false, ◌&&◌, not, min, List, [], ◌∷◌, ◌++◌, Option, Some, None, filter, map, sum_by, option_map, if◌then◌else◌}
+use Rattle.std.specs.Prelude.{ℕ, ◌==◌, Bool, ◌&&◌, not, min, List, [], ◌∷◌, ◌++◌, Some, None, filter, map, sum_by, option_map, if◌then◌else◌}
 use Rattle.std.specs.List.{list_any}
 use Rattle.std.specs.Str.{bytes_eq}
 use Rattle.subject_transform.specs.Domains.{crosses}

@@ -1,6 +1,5 @@
 use Rattle.std.proofs.Common.{◌≡◌}
 use Rattle.std.specs.Vec.Iter.{into_iter_items}
-use Rattle.interest_list.specs.Lists.{Interests}
 use Rattle.interest_list.specs.Changes.{first_refusal, after_all}
 use Rattle.interest_list.proofs.kept.make.Given as goal
 

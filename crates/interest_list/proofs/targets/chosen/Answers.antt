@@ -1,4 +1,4 @@
-use Rattle.std.proofs.Common.{◌≡◌, ◌%◌, sym, ap, ◌∙◌}
+use Rattle.std.proofs.Common.{◌%◌, sym, ◌∙◌}
 use Rattle.interest_list.specs.Targets.{members, weights}
 use Rattle.interest_list.proofs.Choosing.{none-chosen}
 use Rattle.interest_list.proofs.targets.chosen.Goals as goal

@@ -1,5 +1,4 @@
 use Rattle.std.proofs.Common.{◌≡◌, ◌++◌, drop}
-use Rattle.interest_list.specs.Lists.{Interests}
 use Rattle.interest_list.specs.Changes.{all_news, all_informed}
 use Rattle.interest_list.proofs.tellings.inform_all.Given as goal
 

@@ -1,4 +1,4 @@
-ghost use Rattle.std.specs.Prelude.{◌≡◌, ◌++◌, None, Some, IfOk, OnOk, OnErr, IsTrue};
+ghost use Rattle.std.specs.Prelude.{◌≡◌, ◌++◌, IfOk, OnOk, OnErr, IsTrue};
 ghost use Rattle.std.specs.List.{list_all};
 ghost use Rattle.std.specs.Option.{option_copied};
 ghost use Rattle.subject_transform.specs.Domains.{crosses};
@@ -67,7 +67,6 @@ impl InterestList {
     }
 
     /// A client ends a subscription (UNSUB). `NoSid` comes exactly where its connection has none of that number.
-    /// It takes no memory.
     pub fn remove(&mut self, conn: u64, sid: &[u8]) -> Result<(), InterestFault>
         ensures answer { Answers (refusal (Removes conn sid.now) self.old.subs) result }
         ensures ok { OnOk result (self.new ≡ after (Removes conn sid.now) self.old) }
@@ -95,7 +94,7 @@ impl InterestList {
     }
 
     /// A link doesn't want messages of a pattern any more (LS-), by all or by a group. `NoSid` comes exactly
-    /// where it didn't. It takes no memory.
+    /// where it didn't.
     pub fn link_off(
         &mut self,
         conn: u64,
@@ -119,8 +118,7 @@ impl InterestList {
         kept::inner_on(&mut self.subs, pattern)
     }
 
-    /// The node itself doesn't want messages of a pattern any more. `NoSid` comes exactly where it didn't. It
-    /// takes no memory.
+    /// The node itself doesn't want messages of a pattern any more. `NoSid` comes exactly where it didn't.
     pub fn inner_off(&mut self, pattern: &Pattern) -> Result<(), InterestFault>
         ensures answer { Answers (refusal (InnersOff pattern.now) self.old.subs) result }
         ensures ok { OnOk result (self.new ≡ after (InnersOff pattern.now) self.old) }

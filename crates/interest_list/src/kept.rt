@@ -1,9 +1,9 @@
 //! The list of subscriptions: what joins it and what leaves it.
-ghost use Rattle.std.specs.Prelude.{◌≡◌, ◌<◌, ◌≤◌, None, Some, OnOk, OnErr, filter, not, IfOk};
+ghost use Rattle.std.specs.Prelude.{◌≡◌, OnOk, OnErr, IfOk};
 ghost use Rattle.std.specs.List.{list_any};
 ghost use Rattle.std.specs.Option.{option_copied};
-ghost use Rattle.interest_list.specs.Lists.{is_of_client, is_of_link, is_of_node, is_of, is_client, is_link, is_inner, is_on, is_full, same_queue};
-ghost use Rattle.interest_list.specs.Changes.{with_sub, without, too_many, if_new, if_there, refusal, changed, told_after, forgotten, Answers, of_client, of_link, of_node, first_refusal, after_all, MayAnswer};
+ghost use Rattle.interest_list.specs.Lists.{is_of_client, is_of_link, is_of_node, is_of, is_link, is_inner, is_full, same_queue};
+ghost use Rattle.interest_list.specs.Changes.{without, refusal, changed, told_after, forgotten, Answers, first_refusal, after_all, MayAnswer};
 ghost use Rattle.interest_list.specs.declared.change.Change.TheVariants.{Add as Adds, Remove as Removes, LinkOn as LinksOn, LinkOff as LinksOff, InnerOn as InnersOn, InnerOff as InnersOff};
 
 use crate::order::place;

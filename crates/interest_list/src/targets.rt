@@ -1,11 +1,10 @@
 //! Who gets a message.
-ghost use Rattle.std.specs.Prelude.{◌≡◌, ◌<◌, ◌∷◌, [], ◌++◌, ◌%◌, filter, map, IfOk, OnOk, OnErr};
+ghost use Rattle.std.specs.Prelude.{◌≡◌, ◌∷◌, [], ◌++◌, filter, map, IfOk, OnOk};
 ghost use Rattle.std.specs.List.{list_any, filter_map};
 ghost use Rattle.std.specs.Option.{option_copied};
 ghost use Rattle.std.specs.Str.{bytes_eq};
-ghost use Rattle.interest_list.specs.Orders.{text_cmp, in_order};
 ghost use Rattle.interest_list.specs.Lists.{is_link, is_inner};
-ghost use Rattle.interest_list.specs.Targets.{is_muted, came_by, may_get, is_live, is_plain, is_member, members, weights, at_weight, chosen, groups, is_served, served, client_target, link_of, link_target, links, inner_target, holders};
+ghost use Rattle.interest_list.specs.Targets.{is_muted, came_by, may_get, is_live, is_plain, is_member, members, weights, at_weight, chosen, groups, is_served, served, client_target, link_target, links, inner_target, holders};
 
 use crate::kept::{copied, copied_text, is_inner, is_link};
 use crate::order::place;

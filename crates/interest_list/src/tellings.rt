@@ -1,10 +1,8 @@
 //! What a link is told, and the frames that tell it what has changed.
-ghost use Rattle.std.specs.Prelude.{◌≡◌, ◌++◌, [], ◌∷◌, filter, map, not, min, sum_by, option_map, IfOk, OnOk, OnErr};
-ghost use Rattle.std.specs.List.{list_any};
-ghost use Rattle.std.specs.Option.{option_copied};
-ghost use Rattle.interest_list.specs.Lists.{told_cmp, link_cmp, max_weight};
+ghost use Rattle.std.specs.Prelude.{◌≡◌, ◌++◌, filter, map, not, option_map, IfOk, OnOk, OnErr};
+ghost use Rattle.interest_list.specs.Lists.{told_cmp, link_cmp};
 ghost use Rattle.interest_list.specs.Orders.{placed, in_order};
-ghost use Rattle.interest_list.specs.Tellings.{is_told, of_others, is_same_pair, group_weight, told_weight, telling, told, same_pair, same_told, has_pair, has_told, frame_on, frame_off, changes, told_before};
+ghost use Rattle.interest_list.specs.Tellings.{of_others, is_same_pair, group_weight, told_weight, telling, told, same_pair, has_pair, has_told, frame_on, frame_off, changes, told_before};
 ghost use Rattle.interest_list.specs.Changes.{all_news, all_informed};
 
 use crate::kept::{copied, is_link, queue_bytes, same_queue};

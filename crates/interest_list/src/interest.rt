@@ -180,8 +180,8 @@ impl InterestList {
 
     /// Makes these changes, one after another, and adds behind `first` the frames that tell each of these links
     /// what has changed since it was told last, link by link. The answer is the refusal of the first change
-    /// that is refused, or want of memory. After any refusal nothing has changed, nobody was told anything, and `first` is let
-    /// go.
+    /// that is refused, or want of memory. After any refusal nothing has changed, nobody was told anything,
+    /// and `first` is let go.
     pub fn change<P: Carrier>(
         &mut self,
         changes: List<Change>,

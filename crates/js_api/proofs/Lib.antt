@@ -1,0 +1,4 @@
+mod Floats
+mod Texts
+mod Topics
+mod Words

@@ -28,10 +28,10 @@ ReadsSubjectsAlone = (subject : List ℕ) (topic : Topic) → topic_of subject �
 
 -- ---- lines of JSON
 
--- the first of the members, if any, has a name above this one in byte order
+-- each of the members has a name above this one in byte order
 abbrev pub is_below : List ℕ → Members → Bool
 is_below key no_members = true
-is_below key (member other d ms) = match_ordering (slice_cmp nat_cmp key other) true false false
+is_below key (member other d ms) = match_ordering (slice_cmp nat_cmp other key) false false true && is_below key ms
 
 -- the members of each object stand in byte order of their names, and no name stands twice
 abbrev mutual

@@ -1,11 +1,12 @@
 -- Which request a subject and its payload are (the JetStream API of NATS).
-use Rattle.std.specs.Prelude.{ℕ, List, [], ◌∷◌, Bool, true, false, ◌==◌, if◌then◌else◌, Option, None, Some, is_some, Result, Ok, Err, codes, option_and_then, option_map}
+use Rattle.std.specs.Prelude.{◌≡◌, ℕ, List, [], ◌∷◌, Bool, true, false, ◌==◌, if◌then◌else◌, Option, None, Some, is_some, Result, Ok, Err, codes, option_and_then, option_map}
 use Rattle.std.specs.Option.{option_map_or}
-use Rattle.std.specs.Str.{bytes_eq}
+use Rattle.std.specs.Str.{bytes_eq, IsUtf8}
 use Rattle.serde_json.specs.Data.{Data, object, no_members}
 use Rattle.serde_json.specs.Find.{get, as_number, as_str, as_u64, as_object}
 use Rattle.nats_text.specs.Text.{is_pattern, is_subject}
 use Rattle.stream_fold.specs.declared.config.Config.{Config}
+use Rattle.config_json.specs.Answers.{and_then}
 use Rattle.config_json.specs.Reading.{config_in, data_of}
 use Rattle.config_json.specs.declared.fault.ApiFault.{ApiFault}
 use Rattle.config_json.specs.declared.fault.ApiFault.TheVariants.{BadRequest, BadConfig, NotForClients, NotApi, NoMemory}
@@ -132,15 +133,28 @@ abbrev pub is_internal : Topic → Bool
 is_internal Names = false
 is_internal (Stream verb name) = makes_consumer verb
 
--- the request of a payload, which has to be an object
-abbrev pub read_payload : Topic → Option Data → Result ApiCall ApiFault
-read_payload topic None = Err BadRequest
-read_payload topic (Some d) = read_object topic d
+-- the object that a payload is
+abbrev pub if_payload : Option Data → Result Data ApiFault
+if_payload None = Err BadRequest
+if_payload (Some d) = Ok d
+
+-- the object that a payload is, where its subject is one for clients
+abbrev pub payload_of : Topic → List ℕ → Result Data ApiFault
+payload_of topic payload = if is_internal topic then Err NotForClients else if_payload (object_of payload)
 
 -- the request that a payload is, under a subject of the API
 abbrev pub read_topic : Topic → List ℕ → Result ApiCall ApiFault
-read_topic topic payload = if is_internal topic then Err NotForClients else read_payload topic (object_of payload)
+read_topic topic payload = and_then (payload_of topic payload) (read_object topic)
 
 -- the request that a subject and a payload are
 abbrev pub request_of : List ℕ → List ℕ → Result ApiCall ApiFault
 request_of subject payload = option_map_or (λ topic. read_topic topic payload) (topic_of subject) (Err NotApi)
+
+-- a value was read that is seen as what it should be, unless there was no memory
+abbrev pub IsReadAs : {T V : Type 0} → (T → V) → Result T ApiFault → Result V ApiFault → Type 0
+IsReadAs view (Ok value) expected = expected ≡ Ok (view value)
+IsReadAs view (Err BadRequest) expected = expected ≡ Err BadRequest
+IsReadAs view (Err (BadConfig name)) expected = (expected ≡ Err (BadConfig name)) × IsUtf8 name
+IsReadAs view (Err NotForClients) expected = expected ≡ Err NotForClients
+IsReadAs view (Err NotApi) expected = expected ≡ Err NotApi
+IsReadAs view (Err NoMemory) expected = Unit {0}

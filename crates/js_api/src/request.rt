@@ -1,9 +1,11 @@
 //! Which request a subject and its payload are.
-ghost use Rattle.std.specs.Prelude.{◌≡◌, None, Some, if◌then◌else◌, option_map, option_and_then, IfOk};
+ghost use Rattle.std.specs.Prelude.{◌≡◌, Err, option_map, option_and_then, IfOk};
 ghost use Rattle.serde_json.specs.View.{view};
 ghost use Rattle.config_json.specs.Answers.{IsRead};
-ghost use Rattle.js_api.specs.declared.call.ApiCall.TheVariants.{Names, Get};
-ghost use Rattle.js_api.specs.Requests.{offset_of, which_of, if_object, object_of, purge_of, deletion_of, config_named, or_bad, read_about, read_object, is_internal, read_payload, read_topic, request_of};
+ghost use Rattle.config_json.specs.declared.fault.ApiFault.TheVariants.{NotForClients};
+ghost use Rattle.js_api.specs.declared.call.ApiCall.TheVariants.{Names, Get as GetCall};
+ghost use Rattle.js_api.specs.declared.topic.Verb.TheVariants.{Create, Update, Purge, Get};
+ghost use Rattle.js_api.specs.Requests.{IsReadAs, payload_of, offset_of, which_of, if_object, object_of, purge_of, deletion_of, config_named, or_bad, read_about, read_object, is_internal, read_topic, request_of};
 
 use crate::members::{below_of, filter_of, is_named, keeps_none, offset_of, seq_of, which_of};
 use crate::topic::{Topic, Verb, topic_of};
@@ -41,16 +43,34 @@ fn is_internal(topic: &Topic) -> bool
     )
 }
 
-fn read_topic(alloc: Global, topic: Topic, payload: &[u8]) -> Result<ApiCall, ApiFault>
-    ensures { IsRead result (read_topic topic payload.now) }
+/// The object that a payload is, where its subject is one for clients.
+fn payload_of(alloc: Global, topic: &Topic, payload: &[u8]) -> Result<Value, ApiFault>
+    ensures { IsReadAs view result (payload_of topic.now payload.now) }
 {
-    if is_internal(&topic) {
+    if is_internal(topic) {
         return Err(ApiFault::NotForClients);
     }
     match object_of(alloc, payload)? {
-        Some(value) => read_object(alloc, topic, &value),
+        Some(value) => Ok(value),
         None => Err(ApiFault::BadRequest),
     }
+}
+
+fn read_topic(alloc: Global, topic: Topic, payload: &[u8]) -> Result<ApiCall, ApiFault>
+    ensures { IsRead result (read_topic topic payload.now) }
+{
+    match payload_of(alloc, &topic, payload) {
+        Ok(value) => read_object(alloc, topic, &value),
+        Err(fault) => refused(topic, fault),
+    }
+}
+
+/// Lets a request go that is refused.
+fn refused(topic: Topic, fault: ApiFault) -> Result<ApiCall, ApiFault>
+    ensures { result ≡ Err fault }
+{
+    drop(topic);
+    Err(fault)
 }
 
 /// The object that a payload is.
@@ -117,15 +137,50 @@ fn read_about(
     ensures { IsRead result (read_about verb name (view value.now)) }
 {
     match verb {
-        Verb::Create => Ok(ApiCall::Create(config_named(alloc, name, value)?)),
-        Verb::Update => Ok(ApiCall::Update(config_named(alloc, name, value)?)),
+        Verb::Create => read_create(alloc, name, value),
+        Verb::Update => read_update(alloc, name, value),
         Verb::Remove => Ok(ApiCall::Remove(name)),
         Verb::Info => Ok(ApiCall::Info(name)),
-        Verb::Purge => or_bad(purge_of(alloc, name, value)?),
-        Verb::Get => or_bad(get_of(alloc, name, value)?),
+        Verb::Purge => read_purge(alloc, name, value),
+        Verb::Get => read_get(alloc, name, value),
         Verb::Delete => or_bad(deletion_of(name, value)),
-        Verb::Consumer => Err(ApiFault::NotForClients),
+        Verb::Consumer => not_for_clients(name),
     }
+}
+
+fn not_for_clients(name: Name) -> Result<ApiCall, ApiFault>
+    ensures { result ≡ Err NotForClients }
+{
+    drop(name);
+    Err(ApiFault::NotForClients)
+}
+
+fn read_create(alloc: Global, name: Name, value: &Value) -> Result<ApiCall, ApiFault>
+    ensures { IsRead result (read_about Create name (view value.now)) }
+{
+    let config = config_named(alloc, name, value)?;
+    Ok(ApiCall::Create(config))
+}
+
+fn read_update(alloc: Global, name: Name, value: &Value) -> Result<ApiCall, ApiFault>
+    ensures { IsRead result (read_about Update name (view value.now)) }
+{
+    let config = config_named(alloc, name, value)?;
+    Ok(ApiCall::Update(config))
+}
+
+fn read_purge(alloc: Global, name: Name, value: &Value) -> Result<ApiCall, ApiFault>
+    ensures { IsRead result (read_about Purge name (view value.now)) }
+{
+    let call = purge_of(alloc, name, value)?;
+    or_bad(call)
+}
+
+fn read_get(alloc: Global, name: Name, value: &Value) -> Result<ApiCall, ApiFault>
+    ensures { IsRead result (read_about Get name (view value.now)) }
+{
+    let call = get_of(alloc, name, value)?;
+    or_bad(call)
 }
 
 /// The configuration of a stream of this name.
@@ -161,7 +216,7 @@ fn purge_of(alloc: Global, name: Name, value: &Value) -> Result<Option<ApiCall>,
 }
 
 fn get_of(alloc: Global, name: Name, value: &Value) -> Result<Option<ApiCall>, NoMemory>
-    ensures { IfOk result (λ it. it ≡ option_map (λ which. Get name which) (which_of (view value.now))) }
+    ensures { IfOk result (λ it. it ≡ option_map (λ which. GetCall name which) (which_of (view value.now))) }
 {
     let Some(which) = which_of(alloc, value)? else {
         return Ok(None);

@@ -1,0 +1,50 @@
+-- What holds of all configurations.
+use Rattle.std.specs.Prelude.{◌≡◌, ◌<◌, ◌^◌, ℕ, List, [], ◌∷◌, Bool, true, Option, None, Some, Result, Ok}
+use Rattle.std.specs.List.{list_all}
+use Rattle.std.specs.Option.{option_map_or}
+use Rattle.serde_json.specs.Read.{read}
+use Rattle.nats_text.specs.Text.{is_name, is_pattern}
+use Rattle.nats_text.specs.declared.origin.Origin.{Origin}
+use Rattle.stream_fold.specs.Checking.{config_fault}
+use Rattle.stream_fold.specs.declared.config.Config.{Config}
+use Rattle.stream_fold.specs.declared.config.Copies.{Copies}
+use Rattle.stream_fold.specs.declared.config.Copies.TheVariants.{Nothing, Mirror, Sources}
+use Rattle.config_json.specs.Reading.{config_of}
+use Rattle.config_json.specs.Writing.{config_data, config_text, is_text}
+
+-- an origin whose names are names and whose filter is a pattern
+pub record IsOrigin (o : Origin) : Type 0 where
+  pub node_is : option_map_or is_name o.node true ≡ true
+  pub stream_is : is_name o.stream ≡ true
+  pub filter_is : option_map_or is_pattern o.filter true ≡ true
+
+-- each of the origins is one
+abbrev pub AreOrigins : List Origin → Type 0
+AreOrigins [] = Unit {0}
+AreOrigins (o ∷ os) = IsOrigin o × AreOrigins os
+
+-- the origins of a copy are origins
+abbrev pub AreCopies : Copies → Type 0
+AreCopies Nothing = Unit {0}
+AreCopies (Mirror origin) = IsOrigin origin
+AreCopies (Sources origins) = AreOrigins origins
+
+-- a configuration as its type has it: names, patterns, and numbers of 64 bits
+pub record IsConfig (c : Config) : Type 0 where
+  pub name_is : is_name c.name ≡ true
+  pub subjects_are : list_all is_pattern c.subjects ≡ true
+  pub age_is : c.max_age < 2 ^ 64
+  pub window_is : c.window < 2 ^ 64
+  pub copies_are : AreCopies c.copies
+
+-- what is written of a configuration that a stream may have is read as the same JSON
+abbrev pub TextsAreRead : Type 0
+TextsAreRead = (c : Config) → IsConfig c → is_text c ≡ true → config_fault c ≡ None → read (config_text c) ≡ Some (config_data c)
+
+-- and as the same configuration
+abbrev pub ConfigsAreRead : Type 0
+ConfigsAreRead = (c : Config) → IsConfig c → is_text c ≡ true → config_fault c ≡ None → config_of (config_text c) ≡ Ok c
+
+-- a configuration that was read is one that a stream may have, and all of it is text
+abbrev pub ReadConfigsFit : Type 0
+ReadConfigsFit = (text : List ℕ) (c : Config) → config_of text ≡ Ok c → config_fault c ≡ None

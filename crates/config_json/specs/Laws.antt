@@ -4,6 +4,8 @@ use Rattle.std.specs.List.{list_all}
 use Rattle.std.specs.Option.{option_map_or}
 use Rattle.serde_json.specs.Read.{read}
 use Rattle.nats_text.specs.Text.{is_name, is_pattern}
+use Rattle.nats_text.specs.declared.message.Start.{Start}
+use Rattle.nats_text.specs.declared.message.Start.TheVariants.{Seq, Time}
 use Rattle.nats_text.specs.declared.origin.Origin.{Origin}
 use Rattle.stream_fold.specs.Checking.{config_fault}
 use Rattle.stream_fold.specs.declared.config.Config.{Config}
@@ -12,8 +14,14 @@ use Rattle.stream_fold.specs.declared.config.Copies.TheVariants.{Nothing, Mirror
 use Rattle.config_json.specs.Reading.{config_of}
 use Rattle.config_json.specs.Writing.{config_data, config_text, is_text}
 
--- an origin whose names are names and whose filter is a pattern
+-- a start of 64 bits
+abbrev pub IsStart : Start → Type 0
+IsStart (Seq n) = n < 2 ^ 64
+IsStart (Time t) = t < 2 ^ 64
+
+-- an origin as its type has it: names, a pattern, a start of 64 bits
 pub record IsOrigin (o : Origin) : Type 0 where
+  pub start_is : IsStart o.start
   pub node_is : option_map_or is_name o.node true ≡ true
   pub stream_is : is_name o.stream ≡ true
   pub filter_is : option_map_or is_pattern o.filter true ≡ true
@@ -33,18 +41,18 @@ AreCopies (Sources origins) = AreOrigins origins
 pub record IsConfig (c : Config) : Type 0 where
   pub name_is : is_name c.name ≡ true
   pub subjects_are : list_all is_pattern c.subjects ≡ true
+  pub msgs_are : c.max_msgs < 2 ^ 64
+  pub bytes_are : c.max_bytes < 2 ^ 64
+  pub per_subject_is : c.max_per_subject < 2 ^ 64
+  pub size_is : c.max_msg_size < 2 ^ 64
   pub age_is : c.max_age < 2 ^ 64
   pub window_is : c.window < 2 ^ 64
   pub copies_are : AreCopies c.copies
 
--- what is written of a configuration that a stream may have is read as the same JSON
+-- what is written of a configuration is read as the same JSON
 abbrev pub TextsAreRead : Type 0
-TextsAreRead = (c : Config) → IsConfig c → is_text c ≡ true → config_fault c ≡ None → read (config_text c) ≡ Some (config_data c)
+TextsAreRead = (c : Config) → IsConfig c → is_text c ≡ true → read (config_text c) ≡ Some (config_data c)
 
--- and as the same configuration
+-- what is written of a configuration that a stream may have is read as the same configuration
 abbrev pub ConfigsAreRead : Type 0
 ConfigsAreRead = (c : Config) → IsConfig c → is_text c ≡ true → config_fault c ≡ None → config_of (config_text c) ≡ Ok c
-
--- a configuration that was read is one that a stream may have, and all of it is text
-abbrev pub ReadConfigsFit : Type 0
-ReadConfigsFit = (text : List ℕ) (c : Config) → config_of text ≡ Ok c → config_fault c ≡ None

@@ -1,5 +1,5 @@
 -- The origin of a mirror or of a source, as JSON (the stream sources of JetStream's API).
-use Rattle.std.specs.Prelude.{◌≡◌, ℕ, ◌-◌, ◌^◌, List, [], ◌∷◌, ◌++◌, length, take, drop, Bool, true, false, ◌&&◌, not, nat_lt, nat_le, if◌then◌else◌, Option, None, Some, is_some, Result, Ok, Err, codes, option_and_then, option_map}
+use Rattle.std.specs.Prelude.{◌≡◌, ℕ, ◌-◌, ◌^◌, List, [], ◌∷◌, ◌++◌, length, take, drop, Bool, true, false, ◌&&◌, ◌||◌, nat_lt, if◌then◌else◌, Option, None, Some, is_some, Result, Ok, Err, codes, option_and_then, option_map}
 use Rattle.std.specs.List.{list_all}
 use Rattle.std.specs.Str.{bytes_eq}
 use Rattle.serde_json.specs.Data.{Data, Items, no_items, item}
@@ -13,6 +13,8 @@ use Rattle.nats_text.specs.declared.origin.Origin.{Origin}
 use Rattle.stream_fold.specs.Checking.{is_legal_map}
 use Rattle.config_json.specs.declared.fault.ApiFault.{ApiFault}
 use Rattle.config_json.specs.declared.fault.ApiFault.TheVariants.{BadConfig}
+use Rattle.config_json.specs.declared.origin.Choice.{Choice}
+use Rattle.config_json.specs.declared.origin.Place.{Place}
 use Rattle.config_json.specs.Answers.{member, and_then, no_wrong}
 use Rattle.config_json.specs.Others.{absent_or, absent_or_is, maybe, name_of, pattern_of, is_word, number_of, other_in}
 
@@ -39,7 +41,7 @@ maps_of (item d ds) = option_and_then (λ m. option_map (λ ms. m ∷ ms) (maps_
 
 -- up to 16 maps, and none beside a filter
 abbrev pub maps_beside : Bool → List Mapping → Option (List Mapping)
-maps_beside has_filter maps = if nat_le (length maps) 16 && not (has_filter && nat_lt 0 (length maps)) then Some maps else None
+maps_beside has_filter maps = if (has_filter && nat_lt 0 (length maps)) || nat_lt 16 (length maps) then None else Some maps
 
 -- the maps of an origin that has a filter or none
 abbrev pub maps_in : Bool → Option Data → Option (List Mapping)
@@ -66,7 +68,7 @@ api_of node = codes "$JS." ++ node ++ codes ".API"
 
 -- what stands between the first four bytes of a text and its last four
 abbrev pub between : List ℕ → List ℕ
-between text = take (length text - 8) (drop 4 text)
+between text = take (length text - 4 - 4) (drop 4 text)
 
 -- the node of such subjects
 abbrev pub node_from : List ℕ → Option (List ℕ)
@@ -84,17 +86,29 @@ external_of d =
 abbrev pub origin_members : List (List ℕ)
 origin_members = codes "name" ∷ codes "opt_start_seq" ∷ codes "opt_start_time" ∷ codes "filter_subject" ∷ codes "subject_transforms" ∷ codes "external" ∷ []
 
--- an origin, or its first wrong member: in this order, and then another one
-abbrev pub origin_from : Data → Result Origin ApiFault
-origin_from d =
+-- which stream is copied, and from where on; or the first wrong one of these members
+abbrev pub place_in : Data → Result Place ApiFault
+place_in d =
     member (codes "name") (option_and_then name_of (get (codes "name") d)) (λ name.
     member (codes "opt_start_seq") (maybe number_of (get (codes "opt_start_seq") d)) (λ seq.
     member (codes "opt_start_time") (start_in seq (get (codes "opt_start_time") d)) (λ start.
+    Ok (record { stream = name; start = start }))))
+
+-- what of it is copied, or the first wrong one of these members
+abbrev pub choice_in : Data → Result Choice ApiFault
+choice_in d =
     member (codes "filter_subject") (maybe pattern_of (get (codes "filter_subject") d)) (λ filter.
     member (codes "subject_transforms") (maps_in (is_some filter) (get (codes "subject_transforms") d)) (λ maps.
-    member (codes "external") (maybe external_of (get (codes "external") d)) (λ node.
-    no_wrong (other_in origin_members d)
-    (Ok (record { node = node; stream = name; start = start; filter = filter; maps = maps }))))))))
+    Ok (record { filter = filter; maps = maps })))
+
+-- on which node it is, where no other member is wrong
+abbrev pub node_at_last : Data → Result (Option (List ℕ)) ApiFault
+node_at_last d = member (codes "external") (maybe external_of (get (codes "external") d)) (λ node. no_wrong (other_in origin_members d) (Ok node))
+
+-- an origin, or its first wrong member: in this order, and then another one
+abbrev pub origin_from : Data → Result Origin ApiFault
+origin_from d = and_then (place_in d) (λ place. and_then (choice_in d) (λ choice. and_then (node_at_last d) (λ node.
+    Ok (record { node = node; stream = place.stream; start = place.start; filter = choice.filter; maps = choice.maps }))))
 
 -- an origin in a member of a configuration, which is wrong where it is no object
 abbrev pub origin_of : List ℕ → Data → Result Origin ApiFault

@@ -82,24 +82,24 @@ limits_in d =
 abbrev pub takes_all : Limits → Bool
 takes_all limits = is_old limits.discard && (limits.max_msg_size == 0)
 
--- a mirror takes all of its origin, and has no subjects
-abbrev pub is_whole_mirror : List (List ℕ) → Limits → Origin → Bool
-is_whole_mirror subjects limits origin = not (is_some origin.filter) && (length origin.maps == 0) && (length subjects == 0) && takes_all limits
+-- a mirror that doesn't take all of its origin as it is, or has subjects
+abbrev pub is_wrong_mirror : List (List ℕ) → Limits → Origin → Bool
+is_wrong_mirror subjects limits origin = is_some origin.filter || nat_lt 0 (length origin.maps) || nat_lt 0 (length subjects) || not (takes_all limits)
 
 -- a mirror, or the first wrong member
 abbrev pub mirror_of : List (List ℕ) → Limits → Data → Result Copies ApiFault
 mirror_of subjects limits d =
-    and_then (origin_of (codes "mirror") d) (λ origin. member_is (codes "mirror") (is_whole_mirror subjects limits origin) (Ok (Mirror origin)))
+    and_then (origin_of (codes "mirror") d) (λ origin. member_is (codes "mirror") (not (is_wrong_mirror subjects limits origin)) (Ok (Mirror origin)))
 
--- 1 to 32 sources
-abbrev pub are_right_sources : Limits → List Origin → Bool
-are_right_sources limits origins = nat_lt 0 (length origins) && nat_le (length origins) 32 && takes_all limits
+-- no sources, more than 32, or a stream that doesn't take all of them
+abbrev pub are_wrong_sources : Limits → List Origin → Bool
+are_wrong_sources limits origins = (length origins == 0) || nat_lt 32 (length origins) || not (takes_all limits)
 
 -- sources, or the first wrong member
 abbrev pub sources_of : Limits → Data → Result Copies ApiFault
 sources_of limits d =
     member (codes "sources") (as_array d) (λ ds. and_then (origins_of ds) (λ origins.
-    member_is (codes "sources") (are_right_sources limits origins) (Ok (Sources origins))))
+    member_is (codes "sources") (not (are_wrong_sources limits origins)) (Ok (Sources origins))))
 
 -- what a stream copies: a mirror and sources don't stand together
 abbrev pub copies_in : List (List ℕ) → Limits → Option Data → Option Data → Result Copies ApiFault

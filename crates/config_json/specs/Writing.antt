@@ -4,7 +4,7 @@ use Rattle.std.specs.Prelude.{ℕ, List, [], ◌∷◌, map, Bool, true, ◌&&�
 use Rattle.std.specs.List.{list_all}
 use Rattle.std.specs.Option.{option_map_or}
 use Rattle.std.specs.Str.{is_utf8}
-use Rattle.serde_json.specs.Data.{Data, number, unsigned, negative, string, array, object, Members, no_members, member}
+use Rattle.serde_json.specs.Data.{Data, number, unsigned, negative, string, array, object, Members, no_members, member, put}
 use Rattle.serde_json.specs.View.{items_of}
 use Rattle.serde_json.specs.Written.{compact_text}
 use Rattle.moments.specs.Moments.{moment_text}
@@ -121,3 +121,53 @@ config_data c = object
 -- the text of a configuration
 abbrev pub config_text : Config → List ℕ
 config_text c = compact_text (config_data c)
+
+-- ---- the members as they are put, one after another
+
+-- with the node
+abbrev pub with_node : Option (List ℕ) → Members → Members
+with_node None ms = ms
+with_node (Some node) ms = put (codes "external") (object (member (codes "api") (string (api_of node)) no_members)) ms
+
+-- with the filter
+abbrev pub with_filter : Option (List ℕ) → Members → Members
+with_filter None ms = ms
+with_filter (Some filter) ms = put (codes "filter_subject") (string filter) ms
+
+-- with the start
+abbrev pub with_start : Start → Members → Members
+with_start (Seq n) ms = put (codes "opt_start_seq") (whole n) ms
+with_start (Time t) ms = put (codes "opt_start_time") (string (moment_text t)) ms
+
+-- with the maps
+abbrev pub with_maps : List Mapping → Members → Members
+with_maps [] ms = ms
+with_maps (first ∷ maps) ms = put (codes "subject_transforms") (array (items_of (map mapping_data (first ∷ maps)))) ms
+
+-- the limits
+abbrev pub limit_members : Config → Members
+limit_members c =
+    member (codes "discard") (discard_data c.discard)
+    (member (codes "duplicate_window") (whole c.window)
+    (member (codes "max_age") (whole c.max_age)
+    (member (codes "max_bytes") (limit_data c.max_bytes)
+    (member (codes "max_msg_size") (limit_data c.max_msg_size)
+    (member (codes "max_msgs") (limit_data c.max_msgs)
+    (member (codes "max_msgs_per_subject") (limit_data c.max_per_subject) no_members))))))
+
+-- with the other members that are always there
+abbrev pub with_words : Config → Members → Members
+with_words c ms =
+    put (codes "subjects") (array (items_of (map string c.subjects))) (put (codes "storage") (string (codes "file"))
+    (put (codes "retention") (string (codes "limits")) (put (codes "num_replicas") (whole 1) (put (codes "name") (string c.name) ms))))
+
+-- with what is copied
+abbrev pub with_copies : Copies → Members → Members
+with_copies Nothing ms = ms
+with_copies (Mirror origin) ms = put (codes "mirror") (origin_data origin) ms
+with_copies (Sources origins) ms = put (codes "sources") (array (items_of (map origin_data origins))) ms
+
+-- with the stream's own transform
+abbrev pub with_transform : Option Mapping → Members → Members
+with_transform None ms = ms
+with_transform (Some m) ms = put (codes "subject_transform") (mapping_data m) ms

@@ -5,7 +5,7 @@ ghost use Rattle.serde_json.specs.View.{view};
 ghost use Rattle.stream_fold.specs.declared.config.Copies.{Copies as copies_type};
 ghost use Rattle.config_json.specs.declared.fault.ApiFault.TheVariants.{BadConfig};
 ghost use Rattle.config_json.specs.Answers.{IsRead, and_then};
-ghost use Rattle.config_json.specs.Reading.{are_right_sources, copies_in, is_whole_mirror, mirror_of, sources_of, takes_all};
+ghost use Rattle.config_json.specs.Reading.{are_wrong_sources, copies_in, is_wrong_mirror, mirror_of, sources_of, takes_all};
 
 use crate::ApiFault;
 use crate::fault::bad;
@@ -25,13 +25,13 @@ fn takes_all(limits: &Limits) -> bool
     limits.discard == Discard::Old && limits.max_msg_size == 0
 }
 
-fn is_whole_mirror(subjects: &[Pattern], limits: &Limits, origin: &Origin) -> bool
-    ensures { result ≡ is_whole_mirror subjects.now limits.now origin.now }
+fn is_wrong_mirror(subjects: &[Pattern], limits: &Limits, origin: &Origin) -> bool
+    ensures { result ≡ is_wrong_mirror subjects.now limits.now origin.now }
 {
-    origin.filter.is_none()
-        && origin.maps.is_empty()
-        && subjects.is_empty()
-        && takes_all(limits)
+    origin.filter.is_some()
+        || !origin.maps.is_empty()
+        || !subjects.is_empty()
+        || !takes_all(limits)
 }
 
 fn mirror_of(
@@ -43,17 +43,17 @@ fn mirror_of(
     ensures { IsRead result (mirror_of subjects.now limits.now (view value.now)) }
 {
     let origin = origin_of(alloc, "mirror", value)?;
-    if is_whole_mirror(subjects, limits, &origin) {
-        Ok(Copies::Mirror(origin))
-    } else {
+    if is_wrong_mirror(subjects, limits, &origin) {
         Err(bad(alloc, "mirror"))
+    } else {
+        Ok(Copies::Mirror(origin))
     }
 }
 
-fn are_right_sources(limits: &Limits, origins: &[Origin]) -> bool
-    ensures { result ≡ are_right_sources limits.now origins.now }
+fn are_wrong_sources(limits: &Limits, origins: &[Origin]) -> bool
+    ensures { result ≡ are_wrong_sources limits.now origins.now }
 {
-    !origins.is_empty() && origins.len() <= MOST_SOURCES && takes_all(limits)
+    origins.is_empty() || origins.len() > MOST_SOURCES || !takes_all(limits)
 }
 
 fn sources_of(alloc: Global, limits: &Limits, value: &Value) -> Result<Copies, ApiFault>
@@ -63,10 +63,10 @@ fn sources_of(alloc: Global, limits: &Limits, value: &Value) -> Result<Copies, A
         return Err(bad(alloc, "sources"));
     };
     let origins = origins_of(alloc, values)?;
-    if are_right_sources(limits, origins.as_slice()) {
-        Ok(Copies::Sources(origins))
-    } else {
+    if are_wrong_sources(limits, origins.as_slice()) {
         Err(bad(alloc, "sources"))
+    } else {
+        Ok(Copies::Sources(origins))
     }
 }
 

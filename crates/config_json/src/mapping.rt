@@ -128,10 +128,10 @@ fn maps_of(alloc: Global, values: &[Value]) -> Result<Option<List<Mapping>>, NoM
 fn maps_beside(has_filter: bool, maps: List<Mapping>) -> Option<List<Mapping>>
     ensures { result ≡ maps_beside has_filter maps }
 {
-    if maps.len() <= MOST_MAPS && !(has_filter && !maps.is_empty()) {
-        Some(maps)
-    } else {
+    if (has_filter && !maps.is_empty()) || maps.len() > MOST_MAPS {
         None
+    } else {
+        Some(maps)
     }
 }
 

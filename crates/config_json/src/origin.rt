@@ -1,11 +1,11 @@
 //! The origins of mirrors and sources.
 ghost use Rattle.std.specs.Prelude.{◌≡◌, codes, IfOk};
-ghost use Rattle.std.specs.Str.{bytes_eq};
+ghost use Rattle.std.specs.Str.{IsUtf8};
 ghost use Rattle.serde_json.specs.Find.{get};
 ghost use Rattle.serde_json.specs.View.{view, items_view};
 ghost use Rattle.config_json.specs.Answers.{IsRead};
 ghost use Rattle.config_json.specs.Others.{maybe, number_of, pattern_of};
-ghost use Rattle.config_json.specs.Origins.{api_of, between, external_of, node_from, origin_from, origin_of, origins_of, start_in, time_of};
+ghost use Rattle.config_json.specs.Origins.{api_of, between, choice_in, external_of, node_at_last, node_from, origin_from, origin_of, origins_of, place_in, start_in, time_of};
 
 use crate::ApiFault;
 use crate::fault::bad;
@@ -13,7 +13,7 @@ use crate::mapping::{maps_in, text_at};
 use crate::others::other_in;
 use crate::value::{is_absent_or_word, name_from, name_in, number_of, pattern_of};
 use moments::moment_of;
-use nats_text::{List, Name, NoMemory, Origin, Pattern, Start};
+use nats_text::{Bytes, List, Mapping, Name, NoMemory, Origin, Pattern, Start};
 use serde_json::Value;
 use std::alloc::Global;
 
@@ -70,25 +70,34 @@ fn filter_in(alloc: Global, value: &Value) -> Result<Option<Option<Pattern>>, No
 fn between(text: &[u8]) -> &[u8]
     ensures { result.now ≡ between text.now }
 {
-    match text.get(4..) {
-        Some(rest) => &rest[..rest.len().saturating_sub(4)],
-        None => &[],
+    if text.len() < 8 {
+        return &[];
     }
+    &text[4..text.len() - 4]
 }
 
-fn is_api_of(text: &[u8], node: &[u8]) -> bool
-    ensures { result ≡ bytes_eq text.now (api_of node.now) }
+/// The subjects of a node's API, `$JS.<node>.API`.
+pub(crate) fn api_of(alloc: Global, node: &Name) -> Result<Bytes, NoMemory>
+    ensures value { IfOk result (λ text. text ≡ api_of node.now) }
+    ensures text { IfOk result (λ text. IsUtf8 text) }
 {
-    text.starts_with(b"$JS.") && text.ends_with(b".API") && between(text) == node
+    let mut text = Vec::new(alloc);
+    text.extend_from_slice(b"$JS.")?;
+    text.extend_from_slice(node.bytes())?;
+    text.extend_from_slice(b".API")?;
+    Ok(Bytes::from_vec(text))
 }
 
-/// The node whose API has these subjects, `$JS.<node>.API`.
+/// The node whose API has these subjects.
 fn node_from(alloc: Global, text: &[u8]) -> Result<Option<Name>, NoMemory>
     ensures { IfOk result (λ n. n ≡ node_from text.now) }
 {
-    let node = between(text);
-    if is_api_of(text, node) {
-        name_from(alloc, node)
+    let Some(node) = name_from(alloc, between(text))? else {
+        return Ok(None);
+    };
+    let api = api_of(alloc, &node)?;
+    if text == api.as_slice() {
+        Ok(Some(node))
     } else {
         Ok(None)
     }
@@ -121,8 +130,22 @@ fn node_in(alloc: Global, value: &Value) -> Result<Option<Option<Name>>, NoMemor
     }
 }
 
-fn origin_from(alloc: Global, value: &Value) -> Result<Origin, ApiFault>
-    ensures { IsRead result (origin_from (view value.now)) }
+/// Which stream is copied, and from where on.
+#[derive(Drop)]
+pub(crate) struct Place {
+    stream: Name,
+    start: Start,
+}
+
+/// What of a stream is copied.
+#[derive(Drop)]
+pub(crate) struct Choice {
+    filter: Option<Pattern>,
+    maps: List<Mapping>,
+}
+
+fn place_in(alloc: Global, value: &Value) -> Result<Place, ApiFault>
+    ensures { IsRead result (place_in (view value.now)) }
 {
     let Some(stream) = name_in(alloc, value)? else {
         return Err(bad(alloc, "name"));
@@ -133,18 +156,40 @@ fn origin_from(alloc: Global, value: &Value) -> Result<Origin, ApiFault>
     let Some(start) = start_in(seq, value) else {
         return Err(bad(alloc, "opt_start_time"));
     };
+    Ok(Place { stream, start })
+}
+
+fn choice_in(alloc: Global, value: &Value) -> Result<Choice, ApiFault>
+    ensures { IsRead result (choice_in (view value.now)) }
+{
     let Some(filter) = filter_in(alloc, value)? else {
         return Err(bad(alloc, "filter_subject"));
     };
     let Some(maps) = maps_in(alloc, filter.is_some(), value)? else {
         return Err(bad(alloc, "subject_transforms"));
     };
+    Ok(Choice { filter, maps })
+}
+
+/// The node of an origin, or the first wrong one of this and all later members.
+fn node_at_last(alloc: Global, value: &Value) -> Result<Option<Name>, ApiFault>
+    ensures { IsRead result (node_at_last (view value.now)) }
+{
     let Some(node) = node_in(alloc, value)? else {
         return Err(bad(alloc, "external"));
     };
-    if let Some(name) = other_in(&MEMBERS, value) {
-        return Err(bad(alloc, name));
+    match other_in(&MEMBERS, value) {
+        Some(name) => Err(bad(alloc, name)),
+        None => Ok(node),
     }
+}
+
+fn origin_from(alloc: Global, value: &Value) -> Result<Origin, ApiFault>
+    ensures { IsRead result (origin_from (view value.now)) }
+{
+    let Place { stream, start } = place_in(alloc, value)?;
+    let Choice { filter, maps } = choice_in(alloc, value)?;
+    let node = node_at_last(alloc, value)?;
     Ok(Origin {
         node,
         stream,

@@ -2,8 +2,8 @@
 ghost use Rattle.std.specs.Prelude.{◌≡◌, map, option_map};
 ghost use Rattle.std.specs.List.{list_any};
 ghost use Rattle.std.specs.Str.{bytes_eq};
-ghost use Rattle.serde_json.specs.View.{view, number_view, members_view};
-ghost use Rattle.config_json.specs.Others.{counts_as_absent, first_other, is_no_number, other_in};
+ghost use Rattle.serde_json.specs.View.{view, number_view, items_view, members_view};
+ghost use Rattle.config_json.specs.Others.{counts_as_absent, first_other, has_no_items, has_no_members, is_no_number, other_in};
 
 use serde_json::{Map, Number, Value};
 
@@ -16,6 +16,18 @@ fn is_no_number(number: &Number) -> bool
     }
 }
 
+fn has_no_items(items: &[Value]) -> bool
+    ensures { result ≡ has_no_items (items_view items.now) }
+{
+    items.is_empty()
+}
+
+fn has_no_members(members: &Map<String, Value>) -> bool
+    ensures { result ≡ has_no_members (members_view members.now.entries) }
+{
+    members.is_empty()
+}
+
 /// Clients write out members that they don't use, with such a value.
 fn counts_as_absent(value: &Value) -> bool
     ensures { result ≡ counts_as_absent (view value.now) }
@@ -25,15 +37,20 @@ fn counts_as_absent(value: &Value) -> bool
         Value::Bool(flag) => !*flag,
         Value::Number(number) => is_no_number(number),
         Value::String(text) => text.is_empty() || text.as_str() == "none",
-        Value::Array(items) => items.is_empty(),
-        Value::Object(members) => members.is_empty(),
+        Value::Array(items) => has_no_items(items),
+        Value::Object(members) => has_no_members(members),
     }
 }
 
 fn is_known(known: &[&str], name: &str) -> bool
     ensures { result ≡ list_any (bytes_eq name.now) (map (λ k. k.now) known.now) }
 {
-    known.iter().any(|other| name == *other)
+    for other in known {
+        if name == *other {
+            return true;
+        }
+    }
+    false
 }
 
 fn first_other<'a>(known: &[&str], members: &'a Map<String, Value>) -> Option<&'a str>

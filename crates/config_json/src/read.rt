@@ -117,7 +117,6 @@ fn transform_at_last(
 }
 
 fn config_with(
-    alloc: Global,
     name: Name,
     subjects: List<Pattern>,
     limits: Limits,
@@ -126,7 +125,7 @@ fn config_with(
 ) -> Result<Config, NoMemory>
     ensures { IfOk result (λ c. c ≡ config_with name subjects limits copies transform) }
 {
-    let subjects = subjects_or_name(alloc, &name, &copies, subjects)?;
+    let subjects = subjects_or_name(&name, &copies, subjects)?;
     Ok(Config {
         name,
         subjects,
@@ -154,7 +153,7 @@ fn config_from(alloc: Global, value: &Value) -> Result<Config, ApiFault>
     let limits = limits_in(alloc, value)?;
     let copies = copies_in(alloc, subjects.as_slice(), &limits, value)?;
     let transform = transform_at_last(alloc, &copies, value)?;
-    Ok(config_with(alloc, name, subjects, limits, copies, transform)?)
+    Ok(config_with(name, subjects, limits, copies, transform)?)
 }
 
 /// The configuration that JSON is, as a request of JetStream's API has it. What is no object is a

@@ -9,7 +9,7 @@ ghost use Rattle.config_json.specs.Others.{absent_or};
 ghost use Rattle.config_json.specs.Reading.{are_wrong_subjects, subjects_of, subjects_or_name};
 
 use crate::value::patterns_of;
-use nats_text::{List, Name, NoMemory, Pattern, TextFault, overlaps};
+use nats_text::{List, Name, NoMemory, Pattern, Subject, TextFault, overlaps};
 use serde_json::Value;
 use std::alloc::Global;
 use stream_fold::Copies;
@@ -94,19 +94,14 @@ fn is_copy(copies: &Copies) -> bool
 }
 
 /// A name as a pattern, which matches that name alone.
-fn pattern_of_name(alloc: Global, name: &Name) -> Result<Pattern, NoMemory>
+fn pattern_of_name(name: &Name) -> Result<Pattern, NoMemory>
     ensures { IfOk result (λ p. p ≡ name.now) }
 {
-    match Pattern::read(alloc, name.bytes()) {
-        Ok(pattern) => Ok(pattern),
-        Err(TextFault::NoMemory) => Err(NoMemory),
-        Err(TextFault::Bad { .. }) => unreachable!(),
-    }
+    Ok(Pattern::of_subject(Subject::of_name(name.clone()?)))
 }
 
 /// The subjects of a stream: its name, where none are given and it is no copy.
 pub(crate) fn subjects_or_name(
-    alloc: Global,
     name: &Name,
     copies: &Copies,
     subjects: List<Pattern>,
@@ -117,6 +112,6 @@ pub(crate) fn subjects_or_name(
         return Ok(subjects);
     }
     let mut subjects = subjects;
-    subjects.push(pattern_of_name(alloc, name)?)?;
+    subjects.push(pattern_of_name(name)?)?;
     Ok(subjects)
 }

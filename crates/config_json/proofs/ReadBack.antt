@@ -1,6 +1,6 @@
 -- What is written of a configuration that a stream may have is read as that configuration.
-use Rattle.std.proofs.Common.{◌≡◌, ℕ, zero, suc, ◌+◌, ◌-◌, ◌^◌, ◌<◌, List, [], ◌∷◌, ◌++◌, length, length-append, take, drop, take_at, map, Bool, true, false, ◌&&◌, ◌||◌, not, ◌==◌, cond, nat_lt, Option, None, Some, Result, Ok, Err, refl, sym, ap, ◌∙◌, arith, lt-ltb}
-use Rattle.std.specs.Prelude.{codes, negsuc, pos, is_some, option_and_then, option_map, nat_le}
+use Rattle.std.proofs.Common.{◌≡◌, ℕ, zero, suc, ◌+◌, ◌-◌, ◌^◌, ◌<◌, List, [], ◌∷◌, ◌++◌, length, length-append, take_at, map, Bool, true, false, ◌&&◌, ◌||◌, not, ◌==◌, cond, nat_lt, Option, None, Some, Result, Ok, refl, sym, ap, ◌∙◌, arith, lt-ltb}
+use Rattle.std.specs.Prelude.{codes, negsuc, pos, is_some, option_and_then, option_map}
 use Rattle.std.specs.List.{list_all, list_any}
 use Rattle.std.specs.Option.{option_map_or}
 use Rattle.std.specs.Str.{bytes_eq}
@@ -8,10 +8,10 @@ use Rattle.std.proofs.lemmas.Bool.{and_parts, eqb-true, ne_eqb, ltb-false, false
 use Rattle.std.proofs.lemmas.Bool.Decides.{nat_tests}
 use Rattle.std.proofs.lemmas.Option.{none-some}
 use Rattle.std.proofs.lemmas.Slice.Eq.{bytes_eq-Decides}
-use Rattle.serde_json.specs.Data.{Data, number, unsigned, negative, string, array, object, Items, no_items, item, Members, no_members, member as json_member}
+use Rattle.serde_json.specs.Data.{Data, number, negative, string, array, object, no_members, member as json_member}
 use Rattle.serde_json.specs.Find.{get}
 use Rattle.serde_json.specs.View.{items_of}
-use Rattle.moments.specs.Moments.{moment_of, moment_text}
+use Rattle.moments.specs.Moments.{moment_text}
 use Rattle.moments.proofs.Clock.{moment_read}
 use Rattle.nats_text.specs.Matching.{overlap}
 use Rattle.nats_text.specs.Text.{is_name, is_pattern}
@@ -28,13 +28,12 @@ use Rattle.stream_fold.specs.declared.config.Discard.TheVariants.{Old, New}
 use Rattle.stream_fold.specs.declared.config.Copies.{Copies}
 use Rattle.stream_fold.specs.declared.config.Copies.TheVariants.{Nothing, Mirror, Sources}
 use Rattle.config_json.specs.declared.fault.ApiFault.{ApiFault}
-use Rattle.config_json.specs.declared.fault.ApiFault.TheVariants.{BadConfig}
 use Rattle.config_json.specs.declared.limits.Limits.{Limits}
 use Rattle.config_json.specs.Answers.{member, member_is, and_then, no_wrong}
 use Rattle.config_json.specs.Laws.{IsOrigin, AreOrigins, AreCopies, IsConfig}
-use Rattle.config_json.specs.Origins.{api_of, between, node_from, external_of, map_of, maps_of, maps_in, maps_beside, time_of, start_in, origin_members, place_in, choice_in, node_at_last, origin_from, origin_of, origins_of}
-use Rattle.config_json.specs.Others.{absent_or, absent_or_is, maybe, name_of, pattern_of, patterns_of, is_word, whole_of, number_of, limit_of, limit_from, other_in}
-use Rattle.config_json.specs.Reading.{are_wrong_subjects, subjects_of, subjects_or_name, discard_of, is_one_replica, window_from, window_in, limits_in, mirror_of, sources_of, copies_in, transform_of, transform_in, config_members, rest_fault, transform_at_last, config_with, config_from, config_in, config_if, config_of}
+use Rattle.config_json.specs.Origins.{api_of, between, node_from, external_of, map_of, maps_of, maps_in, maps_beside, time_of, start_in, origin_members, place_in, choice_in, node_at_last, origin_of, origins_of}
+use Rattle.config_json.specs.Others.{absent_or, absent_or_is, maybe, name_of, pattern_of, patterns_of, is_word, number_of, limit_of, limit_from, other_in}
+use Rattle.config_json.specs.Reading.{are_wrong_subjects, subjects_of, subjects_or_name, discard_of, is_one_replica, window_from, window_in, limits_in, mirror_of, sources_of, copies_in, transform_in, rest_fault, transform_at_last, config_from, config_if, config_of}
 use Rattle.config_json.specs.Writing.{whole, limit_data, discard_data, mapping_data, origin_data, config_data, config_text, is_text}
 use Rattle.config_json.proofs.Written.{origin_parts, config_parts, data_read}
 

@@ -7,10 +7,10 @@ use Rattle.std.specs.Str.{is_utf8}
 use Rattle.std.proofs.lemmas.Bool.{and_parts}
 use Rattle.std.proofs.lemmas.Str.{IsUtf8-from_is_utf8, is_utf8-from_IsUtf8, IsUtf8-append}
 use Rattle.json.proofs.Printed.Utf8.{IsUtf8-are_ascii}
-use Rattle.serde_json.specs.Data.{Data, number, unsigned, negative, string, array, object, Items, no_items, item, Members, no_members, member, depth, items_depth, members_depth}
+use Rattle.serde_json.specs.Data.{Data, number, negative, string, array, object, item, Members, no_members, member, depth, items_depth}
 use Rattle.serde_json.specs.Read.{read, of_json, of_items, max_depth}
 use Rattle.serde_json.specs.View.{items_of}
-use Rattle.serde_json.specs.Written.{outline, items_outline, compact_text}
+use Rattle.serde_json.specs.Written.{outline, items_outline}
 use Rattle.serde_json.proofs.Numbers.{number_of-decimal, number_of-negative}
 use Rattle.moments.proofs.Clock.{moment_utf8}
 use Rattle.nats_text.specs.Text.{is_name, is_pattern, tokens, are_pattern_tokens}
@@ -103,7 +103,7 @@ filter_plain : (f : Option (List ℕ)) (others : Members) → option_map_or is_p
 filter_plain None others h p = p
 filter_plain (Some t) others h p = (IsUtf8-are_ascii (codes "filter_subject") refl, pattern_utf8 t h, p)
 
-api_utf8 : (n : List ℕ) → is_name n ≡ true → IsUtf8 (api_of n)
+pub api_utf8 : (n : List ℕ) → is_name n ≡ true → IsUtf8 (api_of n)
 api_utf8 n h = IsUtf8-append (codes "$JS." ++ n) (codes ".API") (IsUtf8-append (codes "$JS.") n (IsUtf8-are_ascii (codes "$JS.") refl) (name_utf8 n h)) (IsUtf8-are_ascii (codes ".API") refl)
 
 node_plain : (n : Option (List ℕ)) (others : Members) → option_map_or is_name n true ≡ true → PlainMembers others → PlainMembers (node_members n others)
@@ -194,22 +194,52 @@ transform_plain (Some m) others t p = (IsUtf8-are_ascii (codes "subject_transfor
 config_plain : (c : Config) → IsConfig c → is_text c ≡ true → Plain (config_data c)
 config_plain c h t =
     let texts = and_parts (copies_are_text c.copies) (option_map_or mapping_is_text c.transform true) t in
-    let one : 1 < 2 ^ 64 = omega arith in
-    (IsUtf8-are_ascii (codes "discard") refl, discard_plain c.discard,
-    (IsUtf8-are_ascii (codes "duplicate_window") refl, h.window_is,
-    (IsUtf8-are_ascii (codes "max_age") refl, h.age_is,
-    (IsUtf8-are_ascii (codes "max_bytes") refl, limit_plain c.max_bytes h.bytes_are,
-    (IsUtf8-are_ascii (codes "max_msg_size") refl, limit_plain c.max_msg_size h.size_is,
-    (IsUtf8-are_ascii (codes "max_msgs") refl, limit_plain c.max_msgs h.msgs_are,
-    (IsUtf8-are_ascii (codes "max_msgs_per_subject") refl, limit_plain c.max_per_subject h.per_subject_is,
-    mirror_plain c.copies _ h.copies_are texts.0
-    (IsUtf8-are_ascii (codes "name") refl, name_utf8 c.name h.name_is,
-    (IsUtf8-are_ascii (codes "num_replicas") refl, one,
-    (IsUtf8-are_ascii (codes "retention") refl, IsUtf8-are_ascii (codes "limits") refl,
-    sources_plain c.copies _ h.copies_are texts.0
-    (IsUtf8-are_ascii (codes "storage") refl, IsUtf8-are_ascii (codes "file") refl,
-    transform_plain c.transform _ texts.1
-    (IsUtf8-are_ascii (codes "subjects") refl, texts_plain c.subjects h.subjects_are, tt))))))))))))
+    let one : 1 < 2 ^ 64 = omega arith in (
+      IsUtf8-are_ascii (codes "discard") refl,
+      discard_plain c.discard,
+      (
+        IsUtf8-are_ascii (codes "duplicate_window") refl,
+        h.window_is,
+        (
+          IsUtf8-are_ascii (codes "max_age") refl,
+          h.age_is,
+          (
+            IsUtf8-are_ascii (codes "max_bytes") refl,
+            limit_plain c.max_bytes h.bytes_are,
+            (
+              IsUtf8-are_ascii (codes "max_msg_size") refl,
+              limit_plain c.max_msg_size h.size_is,
+              (
+                IsUtf8-are_ascii (codes "max_msgs") refl,
+                limit_plain c.max_msgs h.msgs_are,
+                (
+                  IsUtf8-are_ascii (codes "max_msgs_per_subject") refl,
+                  limit_plain c.max_per_subject h.per_subject_is,
+                  mirror_plain c.copies _ h.copies_are texts.0 (
+                    IsUtf8-are_ascii (codes "name") refl,
+                    name_utf8 c.name h.name_is,
+                    (
+                      IsUtf8-are_ascii (codes "num_replicas") refl,
+                      one,
+                      (
+                        IsUtf8-are_ascii (codes "retention") refl,
+                        IsUtf8-are_ascii (codes "limits") refl,
+                        sources_plain c.copies _ h.copies_are texts.0 (
+                          IsUtf8-are_ascii (codes "storage") refl,
+                          IsUtf8-are_ascii (codes "file") refl,
+                          transform_plain c.transform _ texts.1
+                              (IsUtf8-are_ascii (codes "subjects") refl, texts_plain c.subjects h.subjects_are, tt),
+                        ),
+                      ),
+                    ),
+                  ),
+                ),
+              ),
+            ),
+          ),
+        ),
+      ),
+    )
 
 -- a configuration, with what it copies and its transform apart
 abbrev pub config_parts : Config → Discard → Copies → Option Mapping → Data

@@ -1,5 +1,5 @@
 -- What a reading gives, and how readings follow one another.
-use Rattle.std.specs.Prelude.{◌≡◌, List, ℕ, Bool, true, false, if◌then◌else◌, Option, None, Some, Result, Ok, Err}
+use Rattle.std.specs.Prelude.{◌≡◌, List, ℕ, Bool, if◌then◌else◌, Option, None, Some, Result, Ok, Err}
 use Rattle.std.specs.Str.{IsUtf8}
 use Rattle.config_json.specs.declared.fault.ApiFault.{ApiFault}
 use Rattle.config_json.specs.declared.fault.ApiFault.TheVariants.{BadRequest, BadConfig, NotForClients, NotApi, NoMemory}

@@ -1,6 +1,5 @@
 -- The origin of a mirror or of a source, as JSON (the stream sources of JetStream's API).
-use Rattle.std.specs.Prelude.{◌≡◌, ℕ, ◌-◌, ◌^◌, List, [], ◌∷◌, ◌++◌, length, take, drop, Bool, true, false, ◌&&◌, ◌||◌, nat_lt, if◌then◌else◌, Option, None, Some, is_some, Result, Ok, Err, codes, option_and_then, option_map}
-use Rattle.std.specs.List.{list_all}
+use Rattle.std.specs.Prelude.{ℕ, ◌-◌, ◌^◌, List, [], ◌∷◌, ◌++◌, length, take, drop, Bool, ◌&&◌, ◌||◌, nat_lt, if◌then◌else◌, Option, None, Some, is_some, Result, Ok, codes, option_and_then, option_map}
 use Rattle.std.specs.Str.{bytes_eq}
 use Rattle.serde_json.specs.Data.{Data, Items, no_items, item}
 use Rattle.serde_json.specs.Find.{get, as_str, as_array, as_object}
@@ -12,7 +11,6 @@ use Rattle.nats_text.specs.declared.origin.Mapping.{Mapping}
 use Rattle.nats_text.specs.declared.origin.Origin.{Origin}
 use Rattle.stream_fold.specs.Checking.{is_legal_map}
 use Rattle.config_json.specs.declared.fault.ApiFault.{ApiFault}
-use Rattle.config_json.specs.declared.fault.ApiFault.TheVariants.{BadConfig}
 use Rattle.config_json.specs.declared.origin.Choice.{Choice}
 use Rattle.config_json.specs.declared.origin.Place.{Place}
 use Rattle.config_json.specs.Answers.{member, and_then, no_wrong}

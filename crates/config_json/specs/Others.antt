@@ -1,10 +1,10 @@
 -- What single members may be, and the members that no table names.
-use Rattle.std.specs.Prelude.{◌≡◌, ℕ, zero, suc, ◌^◌, List, [], ◌∷◌, Bool, true, false, ◌&&◌, ◌||◌, not, ◌==◌, nat_lt, if◌then◌else◌, Option, None, Some, is_some, ℤ, pos, negsuc, codes, option_and_then, option_map}
+use Rattle.std.specs.Prelude.{ℕ, zero, suc, ◌^◌, List, [], ◌∷◌, Bool, true, false, ◌||◌, not, ◌==◌, nat_lt, if◌then◌else◌, Option, None, Some, is_some, ℤ, pos, negsuc, codes, option_and_then, option_map}
 use Rattle.std.specs.List.{list_any}
 use Rattle.std.specs.Option.{option_map_or}
 use Rattle.std.specs.Str.{bytes_eq}
-use Rattle.serde_json.specs.Data.{Num, unsigned, negative, float, Data, null, boolean, number, string, array, object, Items, no_items, item, Members, no_members, member}
-use Rattle.serde_json.specs.Find.{get, as_null, as_number, as_str, as_i64, as_u64, as_array, as_object}
+use Rattle.serde_json.specs.Data.{Num, Data, null, boolean, number, string, array, object, Items, no_items, item, Members, no_members, member}
+use Rattle.serde_json.specs.Find.{as_null, as_number, as_str, as_i64, as_u64, as_object}
 use Rattle.nats_text.specs.Text.{is_name, is_pattern}
 
 -- an absent member counts as this, and another one has to be read

@@ -1,5 +1,5 @@
 -- A stream's configuration, as JSON is read as one (the stream configuration of JetStream's API).
-use Rattle.std.specs.Prelude.{◌≡◌, ℕ, suc, ◌^◌, List, [], ◌∷◌, length, Bool, true, false, ◌&&◌, ◌||◌, not, ◌==◌, nat_lt, nat_le, if◌then◌else◌, Option, None, Some, is_some, Result, Ok, Err, codes, option_and_then, option_map}
+use Rattle.std.specs.Prelude.{ℕ, List, [], ◌∷◌, length, Bool, false, ◌&&◌, ◌||◌, not, ◌==◌, nat_lt, nat_le, if◌then◌else◌, Option, None, Some, is_some, Result, Ok, Err, codes, option_and_then, option_map}
 use Rattle.std.specs.List.{list_any}
 use Rattle.std.specs.Option.{option_map_or}
 use Rattle.std.specs.Str.{is_utf8}
@@ -20,7 +20,7 @@ use Rattle.config_json.specs.declared.fault.ApiFault.{ApiFault}
 use Rattle.config_json.specs.declared.fault.ApiFault.TheVariants.{BadRequest, BadConfig}
 use Rattle.config_json.specs.declared.limits.Limits.{Limits}
 use Rattle.config_json.specs.Answers.{member, member_is, and_then, no_wrong}
-use Rattle.config_json.specs.Others.{absent_or, absent_or_is, maybe, name_of, patterns_of, is_word, whole_of, limit_of, is_no_null, other_in}
+use Rattle.config_json.specs.Others.{absent_or, absent_or_is, name_of, patterns_of, is_word, whole_of, limit_of, is_no_null, other_in}
 use Rattle.config_json.specs.Origins.{mapping_of, origin_of, origins_of}
 
 -- ---- subjects
@@ -145,10 +145,18 @@ transform_at_last copies d = member (codes "subject_transform") (transform_in co
 -- a configuration of what was read
 abbrev pub config_with : List ℕ → List (List ℕ) → Limits → Copies → Option Mapping → Config
 config_with name subjects limits copies transform = record {
-  name = name; subjects = subjects_or_name name copies subjects;
-  max_msgs = limits.max_msgs; max_bytes = limits.max_bytes; max_age = limits.max_age;
-  max_per_subject = limits.max_per_subject; max_msg_size = limits.max_msg_size;
-  discard = limits.discard; window = limits.window; transform = transform; copies = copies }
+  name = name;
+  subjects = subjects_or_name name copies subjects;
+  max_msgs = limits.max_msgs;
+  max_bytes = limits.max_bytes;
+  max_age = limits.max_age;
+  max_per_subject = limits.max_per_subject;
+  max_msg_size = limits.max_msg_size;
+  discard = limits.discard;
+  window = limits.window;
+  transform = transform;
+  copies = copies;
+}
 
 -- the configuration that an object is, or its first wrong member: in this order, and then another one
 abbrev pub config_from : Data → Result Config ApiFault

@@ -28,10 +28,7 @@ fn takes_all(limits: &Limits) -> bool
 fn is_wrong_mirror(subjects: &[Pattern], limits: &Limits, origin: &Origin) -> bool
     ensures { result ≡ is_wrong_mirror subjects.now limits.now origin.now }
 {
-    origin.filter.is_some()
-        || !origin.maps.is_empty()
-        || !subjects.is_empty()
-        || !takes_all(limits)
+    origin.filter.is_some() || !origin.maps.is_empty() || !subjects.is_empty() || !takes_all(limits)
 }
 
 fn mirror_of(

@@ -72,10 +72,7 @@ fn subjects_of(alloc: Global, value: &Value) -> Result<Option<List<Pattern>>, No
 }
 
 /// The subjects that are given, if they may be a stream's.
-pub(crate) fn subjects_in(
-    alloc: Global,
-    value: &Value,
-) -> Result<Option<List<Pattern>>, NoMemory>
+pub(crate) fn subjects_in(alloc: Global, value: &Value) -> Result<Option<List<Pattern>>, NoMemory>
     ensures { IfOk result (λ s. s ≡ absent_or [] subjects_of (get (codes "subjects") (view value.now))) }
 {
     match value.get("subjects") {

@@ -11,7 +11,10 @@ use stream_fold::{Config, Copies};
 fn is_utf8(bytes: &[u8]) -> bool
     ensures { result ≡ is_utf8 bytes.now }
 {
-    str::from_utf8(bytes).is_ok()
+    match str::from_utf8(bytes) {
+        Ok(_) => true,
+        Err(_) => false,
+    }
 }
 
 fn mapping_is_text(mapping: &Mapping) -> bool
@@ -23,7 +26,17 @@ fn mapping_is_text(mapping: &Mapping) -> bool
 fn origin_is_text(origin: &Origin) -> bool
     ensures { result ≡ origin_is_text origin.now }
 {
-    origin.maps.as_slice().iter().all(|map| mapping_is_text(map))
+    origin
+        .maps
+        .as_slice()
+        .iter()
+        .all(|map| mapping_is_text(map))
+}
+
+fn origins_are_text(origins: &[Origin]) -> bool
+    ensures { result ≡ list_all origin_is_text origins.now }
+{
+    origins.iter().all(|origin| origin_is_text(origin))
 }
 
 fn copies_are_text(copies: &Copies) -> bool
@@ -32,10 +45,7 @@ fn copies_are_text(copies: &Copies) -> bool
     match copies {
         Copies::Nothing => true,
         Copies::Mirror(origin) => origin_is_text(origin),
-        Copies::Sources(origins) => origins
-            .as_slice()
-            .iter()
-            .all(|origin| origin_is_text(origin)),
+        Copies::Sources(origins) => origins_are_text(origins.as_slice()),
     }
 }
 

@@ -146,11 +146,7 @@ fn moment_value(alloc: Global, time: u64) -> Result<Value, NoMemory>
     Ok(Value::try_from_str(alloc, as_text(text.as_slice()))?)
 }
 
-fn put_start(
-    members: &mut Map<String, Value>,
-    alloc: Global,
-    start: Start,
-) -> Result<(), NoMemory>
+fn put_start(members: &mut Map<String, Value>, alloc: Global, start: Start) -> Result<(), NoMemory>
     ensures { OnOk result (members_view members.new.entries ≡ with_start start (members_view members.old.entries)) }
 {
     match start {

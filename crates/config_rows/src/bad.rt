@@ -42,9 +42,18 @@ const MEMBERS: [(&str, &str); 74] = [
     (r#""mirror":{"name":"O"},"discard":"new""#, "mirror"),
     (r#""mirror":{"name":"O"},"max_msg_size":1"#, "mirror"),
     (r#""mirror":{"name":"O","filter_subject":"a"}"#, "mirror"),
-    (r#""mirror":{"name":"O","filter_subject":""}"#, "filter_subject"),
-    (r#""mirror":{"name":"O","opt_start_seq":-1}"#, "opt_start_seq"),
-    (r#""mirror":{"name":"O","opt_start_seq":1.0}"#, "opt_start_seq"),
+    (
+        r#""mirror":{"name":"O","filter_subject":""}"#,
+        "filter_subject",
+    ),
+    (
+        r#""mirror":{"name":"O","opt_start_seq":-1}"#,
+        "opt_start_seq",
+    ),
+    (
+        r#""mirror":{"name":"O","opt_start_seq":1.0}"#,
+        "opt_start_seq",
+    ),
     (
         r#""mirror":{"name":"O","opt_start_seq":9223372036854775808}"#,
         "opt_start_seq",
@@ -80,7 +89,10 @@ const MEMBERS: [(&str, &str); 74] = [
         "external",
     ),
     (r#""mirror":{"name":"O","domain":"hub"}"#, "domain"),
-    (r#""mirror":{"name":"O"},"sources":[{"name":"P"}]"#, "sources"),
+    (
+        r#""mirror":{"name":"O"},"sources":[{"name":"P"}]"#,
+        "sources",
+    ),
     (r#""mirror":{},"sources":[{"name":"P"}]"#, "name"),
     // Sources.
     (r#""sources":[]"#, "sources"),
@@ -140,7 +152,10 @@ fn the_first_wrong_member_is_told(rt: HostRuntime) -> Result<(), Fail> {
         let alloc = rt.alloc();
         let text = format!(in alloc; "{{\"name\":\"S\",{members}}}")?;
         let want = format!(in alloc; "bad {name}")?;
-        assert!(rt; told(alloc, text.as_bytes())?.as_slice() == want.as_bytes(), "{text}");
+        assert!(rt;
+            told(alloc, text.as_bytes())?.as_slice() == want.as_bytes(),
+            "{text}"
+        );
     }
     Ok(())
 }
@@ -162,7 +177,10 @@ const TEXTS: [(&str, &str); 10] = [
 #[test]
 fn a_text_is_an_object_with_a_name(rt: HostRuntime) -> Result<(), Fail> {
     for (text, want) in TEXTS.iter() {
-        assert!(rt; told(rt.alloc(), text.as_bytes())?.as_slice() == want.as_bytes(), "{text}");
+        assert!(rt;
+            told(rt.alloc(), text.as_bytes())?.as_slice() == want.as_bytes(),
+            "{text}"
+        );
     }
     Ok(())
 }

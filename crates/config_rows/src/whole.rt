@@ -2,7 +2,8 @@ use crate::told::told;
 use std::test::Fail;
 
 /// A stream of which nothing but the name is said.
-const DEFAULT: &str = r#"{"discard":"old","duplicate_window":120000000000,"max_age":0,"max_bytes":-1,"max_msg_size":-1,"max_msgs":-1,"max_msgs_per_subject":-1,"name":"S","num_replicas":1,"retention":"limits","storage":"file","subjects":["S"]}"#;
+const DEFAULT: &str =
+    r#"{"discard":"old","duplicate_window":120000000000,"max_age":0,"max_bytes":-1,"max_msg_size":-1,"max_msgs":-1,"max_msgs_per_subject":-1,"name":"S","num_replicas":1,"retention":"limits","storage":"file","subjects":["S"]}"#;
 
 /// Members beside the name that say no more than the name, among them all that clients send with a
 /// configuration of which nothing is set.
@@ -23,7 +24,10 @@ fn what_is_not_set_says_nothing(rt: HostRuntime) -> Result<(), Fail> {
     for members in NOTHING.iter() {
         let alloc = rt.alloc();
         let text = format!(in alloc; "{{\"name\":\"S\",{members}}}")?;
-        assert!(rt; told(alloc, text.as_bytes())?.as_slice() == DEFAULT.as_bytes(), "{text}");
+        assert!(rt;
+            told(alloc, text.as_bytes())?.as_slice() == DEFAULT.as_bytes(),
+            "{text}"
+        );
     }
     Ok(())
 }
@@ -79,8 +83,14 @@ fn what_is_read_is_written_again(rt: HostRuntime) -> Result<(), Fail> {
         let alloc = rt.alloc();
         let text = format!(in alloc; "{{\"name\":\"S\",{members}}}")?;
         let want = format!(in alloc; "{{{parts}}}")?;
-        assert!(rt; told(alloc, text.as_bytes())?.as_slice() == want.as_bytes(), "{text}");
-        assert!(rt; told(alloc, want.as_bytes())?.as_slice() == want.as_bytes(), "{want}");
+        assert!(rt;
+            told(alloc, text.as_bytes())?.as_slice() == want.as_bytes(),
+            "{text}"
+        );
+        assert!(rt;
+            told(alloc, want.as_bytes())?.as_slice() == want.as_bytes(),
+            "{want}"
+        );
     }
     Ok(())
 }

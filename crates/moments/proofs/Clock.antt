@@ -28,7 +28,6 @@ use Rattle.jiff_fmt.proofs.TemporalLemmas.{instant-ok}
 use Rattle.jiff_fmt.proofs.TextLemmas.{places-read}
 use Rattle.moments.specs.Moments as Moments
 use Rattle.moments.specs.Moments.{year_of, month_of, moment_text, moment_of, natural_of}
-
 use Rattle.moments.proofs.Calendar.{year_is, month_is, moment_shown}
 
 -- ---- the fraction of nine places

@@ -275,10 +275,7 @@ fn put_transform(
     Ok(())
 }
 
-/// The JSON of a configuration: a member of an answer of JetStream's API. All members from `name` to
-/// `duplicate_window` stand in it, with -1 for no limit but 0 for no age, and of the others those
-/// that the configuration has. [`has_texts`](crate::has_texts) tells the condition.
-pub fn config_value(alloc: Global, config: &Config) -> Result<Value, NoMemory>
+fn config_object(alloc: Global, config: &Config) -> Result<Value, NoMemory>
     requires { is_text config.now ≡ true }
     ensures { IfOk result (λ value. view value ≡ config_data config.now) }
 {
@@ -287,6 +284,18 @@ pub fn config_value(alloc: Global, config: &Config) -> Result<Value, NoMemory>
     put_copies(&mut members, alloc, &config.copies)?;
     put_transform(&mut members, alloc, &config.transform)?;
     Ok(Value::Object(members))
+}
+
+/// The JSON of a configuration: a member of an answer of JetStream's API. All members from `name` to
+/// `duplicate_window` stand in it, with -1 for no limit but 0 for no age, and of the others those
+/// that the configuration has. [`has_texts`](crate::has_texts) tells the condition.
+pub fn config_value(alloc: Global, config: &Config) -> Result<Value, NoMemory>
+    requires { is_text config.now ≡ true }
+    ensures value { IfOk result (λ value. view value ≡ config_data config.now) }
+    ensures plain { IfOk result (λ value. has_float (view value) ≡ false) }
+{
+    let value = config_object(alloc, config)?;
+    Ok(value)
 }
 
 /// The text of JSON without fractions.

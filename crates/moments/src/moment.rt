@@ -1,4 +1,5 @@
 ghost use Rattle.std.specs.Prelude.{◌≡◌, IfOk};
+ghost use Rattle.std.specs.Str.{IsUtf8};
 ghost use Rattle.moments.specs.Moments.{moment_of, moment_text};
 
 use jiff::Timestamp;
@@ -8,7 +9,8 @@ use std::alloc::Global;
 
 /// The text of a moment, `YYYY-MM-DDTHH:MM:SS.nnnnnnnnnZ`: always in UTC and with nine places.
 pub fn moment_text(alloc: Global, time: u64) -> Result<Bytes, NoMemory>
-    ensures { IfOk result (λ text. text ≡ moment_text time) }
+    ensures value { IfOk result (λ text. text ≡ moment_text time) }
+    ensures utf8 { IfOk result (λ text. IsUtf8 text) }
 {
     let Ok(moment) = Timestamp::from_nanosecond(i128::from(time)) else {
         unreachable!()

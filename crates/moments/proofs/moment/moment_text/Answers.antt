@@ -9,8 +9,8 @@ use Rattle.moments.specs.Moments.{moment_text}
 use Rattle.moments.proofs.Calendar.{moment_shown}
 use Rattle.moments.proofs.moment.moment_text.Goals as goal
 
-pub returns : goal.returns
-returns c =
+pub returns-clause-value : goal.returns-clause-value
+returns-clause-value c =
     let h = c.timestamp_text-text.ensures in
     let p = c.precision-printer.result in
     let start = c.new.ensures in

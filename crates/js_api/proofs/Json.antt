@@ -1,7 +1,7 @@
 -- Data without nulls and fractions, whose members are in order, are read from their text.
-use Rattle.std.proofs.Common.{◌≡◌, ℕ, zero, suc, max, ◌^◌, ◌<◌, ◌≤◌, [], ◌∷◌, ◌++◌, List, Bool, true, false, ◌&&◌, Some, refl, sym, ap, ap₂, ◌∙◌, arith, IsUtf8, append-nil}
+use Rattle.std.proofs.Common.{◌≡◌, ℕ, zero, suc, max, ◌^◌, ◌<◌, ◌≤◌, [], ◌∷◌, ◌++◌, List, Bool, true, false, ◌&&◌, Some, Ordering, Less, Equal, Greater, refl, sym, ap, ap₂, ◌∙◌, arith, IsUtf8, append-nil}
 use Rattle.std.specs.Prelude.{⊤, ℤ, pos, negsuc, option_and_then, option_map}
-use Rattle.std.specs.Ordering.{Ordering, nat_cmp, match_ordering}
+use Rattle.std.specs.Ordering.{nat_cmp, match_ordering}
 use Rattle.std.specs.Cmp.Lexicographic.{slice_cmp}
 use Rattle.std.proofs.lemmas.Bool.{and_parts, and_from, false≢true}
 use Rattle.json.specs.Lex.{tokens}
@@ -106,9 +106,9 @@ are_last front no_members = true
 are_last front (member k d ms) = is_last k front && are_last front ms
 
 greater_alone : {A : Type 0} (o : Ordering) (x y z : A) → match_ordering o false false true ≡ true → match_ordering o x y z ≡ z
-greater_alone Ordering.Less x y z h = absurd (false≢true h)
-greater_alone Ordering.Equal x y z h = absurd (false≢true h)
-greater_alone Ordering.Greater x y z h = refl
+greater_alone Less x y z h = absurd (false≢true h)
+greater_alone Equal x y z h = absurd (false≢true h)
+greater_alone Greater x y z h = refl
 
 put_last : (front : Members) (k : List ℕ) (d : Data) → is_last k front ≡ true → put k d front ≡ behind_all front k d
 put_last no_members k d h = refl

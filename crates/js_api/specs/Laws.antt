@@ -65,6 +65,7 @@ IsWide n = n < 2 ^ 64
 pub record IsNumbered (found : Numbered) : Type 0 where
   pub seq : IsWide found.seq
   pub subject : IsTrue (is_subject found.message.subject)
+  pub time : IsWide found.message.time
 
 -- an answer without a configuration, as the types hold it
 abbrev pub IsPlainReply : ApiReply → Type 0

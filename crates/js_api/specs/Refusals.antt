@@ -65,6 +65,6 @@ own_text NotForClients = []
 own_text BadRequest = []
 own_text TooMany = []
 
--- a member or a header that is told is UTF-8
+-- what the description ends in is UTF-8, as a stream's name and a number always are
 abbrev pub HasText : ApiRefusal → Type 0
 HasText refusal = IsUtf8 (own_text refusal)

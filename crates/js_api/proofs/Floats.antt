@@ -1,6 +1,6 @@
 -- No answer has a number with a fraction.
 use Rattle.std.proofs.Common.{◌≡◌, ℕ, List, [], ◌∷◌, Bool, true, false, cond, ◌==◌, Option, None, Some, negsuc, refl, map}
-use Rattle.serde_json.specs.Data.{Data, number, negative, string, array, Members, no_members, member}
+use Rattle.serde_json.specs.Data.{number, negative, string, array, Members, no_members, member}
 use Rattle.serde_json.specs.View.{items_of}
 use Rattle.serde_json.specs.Written.{has_float, items_have_float, members_have_float}
 use Rattle.nats_text.specs.Headers.{written}
@@ -15,7 +15,7 @@ use Rattle.stream_fold.specs.declared.config.Copies.{Copies}
 use Rattle.stream_fold.specs.declared.config.Copies.TheVariants.{Nothing, Mirror, Sources}
 use Rattle.stream_fold.specs.declared.entry.Numbered.{Numbered}
 use Rattle.config_json.specs.Writing.{whole, limit_data, discard_data, mapping_data, maps_members, start_members, filter_members, node_members, origin_data, mirror_members, sources_members, transform_members, config_data}
-use Rattle.js_api.specs.Answers.{base64_data, headers_member, flag_member, duplicate_member, listed_data, found_data, stream_data, ack_data}
+use Rattle.js_api.specs.Answers.{headers_member, flag_member, listed_data, found_data, stream_data, ack_data}
 use Rattle.js_api.specs.declared.reply.StateFacts.{StateFacts}
 
 texts_no_float : (ts : List (List ℕ)) → items_have_float (items_of (map string ts)) ≡ false

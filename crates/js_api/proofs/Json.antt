@@ -1,6 +1,6 @@
 -- Data without nulls and fractions, whose members are in order, are read from their text.
-use Rattle.std.proofs.Common.{◌≡◌, ℕ, zero, suc, max, ◌^◌, ◌<◌, ◌≤◌, [], ◌∷◌, ◌++◌, List, Bool, true, false, ◌&&◌, Some, Ordering, Less, Equal, Greater, refl, sym, ap, ap₂, ◌∙◌, arith, IsUtf8, append-nil}
-use Rattle.std.specs.Prelude.{⊤, ℤ, pos, negsuc, option_and_then, option_map}
+use Rattle.std.proofs.Common.{◌≡◌, ℕ, suc, max, ◌^◌, ◌<◌, ◌≤◌, [], List, Bool, true, false, ◌&&◌, Some, Ordering, Less, Equal, Greater, refl, sym, ap, ap₂, ◌∙◌, arith, IsUtf8, append-nil}
+use Rattle.std.specs.Prelude.{⊤, option_and_then, option_map}
 use Rattle.std.specs.Ordering.{nat_cmp, match_ordering}
 use Rattle.std.specs.Cmp.Lexicographic.{slice_cmp}
 use Rattle.std.proofs.lemmas.Bool.{and_parts, and_from, false≢true}

@@ -1,5 +1,5 @@
 -- Each answer is one line of JSON.
-use Rattle.std.proofs.Common.{◌≡◌, ℕ, ◌^◌, ◌<◌, ◌≤◌, List, [], ◌∷◌, length, Bool, true, false, ◌&&◌, refl, map, arith, IsUtf8}
+use Rattle.std.proofs.Common.{◌≡◌, ℕ, ◌^◌, ◌<◌, ◌≤◌, List, [], ◌∷◌, Bool, true, false, refl, map, arith, IsUtf8}
 use Rattle.std.specs.Prelude.{codes}
 use Rattle.std.specs.List.{list_all}
 use Rattle.std.proofs.lemmas.Bool.{and_parts}
@@ -8,17 +8,17 @@ use Rattle.json.proofs.Printed.Utf8.{IsUtf8-are_ascii}
 use Rattle.base64.specs.Engines.{standard}
 use Rattle.base64.specs.GeneralPurpose.{encode_of}
 use Rattle.base64.proofs.EngineFacts.{IsAscii-encode_of}
-use Rattle.serde_json.specs.Data.{Data, string, object, Members, no_members, member, depth, items_depth, members_depth}
+use Rattle.serde_json.specs.Data.{Data, string, object, no_members, member, depth, items_depth}
 use Rattle.serde_json.specs.Read.{max_depth}
 use Rattle.serde_json.specs.View.{items_of}
 use Rattle.serde_json.specs.Written.{compact_text}
-use Rattle.moments.specs.Moments.{moment_text}
+use Rattle.config_json.specs.Writing.{whole}
 use Rattle.moments.proofs.Clock.{moment_utf8}
 use Rattle.nats_text.specs.Headers.{written}
 use Rattle.nats_text.specs.Text.{is_name}
 use Rattle.stream_fold.specs.declared.entry.Numbered.{Numbered}
-use Rattle.js_api.specs.Answers.{whole, moment_data, base64_data, response_type, done_data, purged_data, listed_data, headers_member, message_data, found_data, error_data, fault_data, answer_data, answer_text, ack_data, ack_text, ack_fault_data, ack_fault_text}
-use Rattle.js_api.specs.Laws.{in_order, items_in_order, IsLineOf, IsWide, IsNumbered, IsPlainReply}
+use Rattle.js_api.specs.Answers.{moment_data, base64_data, response_type, done_data, purged_data, listed_data, headers_member, message_data, found_data, error_data, fault_data, answer_data, answer_text, ack_data, ack_text, ack_fault_data, ack_fault_text}
+use Rattle.js_api.specs.Laws.{in_order, items_in_order, IsLineOf, IsNumbered, IsPlainReply}
 use Rattle.js_api.specs.declared.call.ApiCall.{ApiCall}
 use Rattle.js_api.specs.declared.call.ApiCall.TheVariants as call
 use Rattle.js_api.specs.declared.reply.ApiReply.{ApiReply}
@@ -100,9 +100,15 @@ parts_data payload block seq subject time = object
 parts_plain : (payload block : List ℕ) (seq : ℕ) (subject : List ℕ) (time : ℕ) → seq < 2 ^ 64 → IsUtf8 subject → time < 2 ^ 64 → Plain (parts_data payload block seq subject time)
 parts_plain payload [] seq subject time s u t =
     (IsUtf8-are_ascii (codes "data") refl, base64_utf8 payload, (IsUtf8-are_ascii (codes "seq") refl, s, (IsUtf8-are_ascii (codes "subject") refl, u, (IsUtf8-are_ascii (codes "time") refl, moment_utf8 time t, tt))))
-parts_plain payload (b ∷ bs) seq subject time s u t =
-    (IsUtf8-are_ascii (codes "data") refl, base64_utf8 payload, (IsUtf8-are_ascii (codes "hdrs") refl, base64_utf8 (b ∷ bs),
-    (IsUtf8-are_ascii (codes "seq") refl, s, (IsUtf8-are_ascii (codes "subject") refl, u, (IsUtf8-are_ascii (codes "time") refl, moment_utf8 time t, tt)))))
+parts_plain payload (b ∷ bs) seq subject time s u t = (
+  IsUtf8-are_ascii (codes "data") refl,
+  base64_utf8 payload,
+  (
+    IsUtf8-are_ascii (codes "hdrs") refl,
+    base64_utf8 (b ∷ bs),
+    (IsUtf8-are_ascii (codes "seq") refl, s, (IsUtf8-are_ascii (codes "subject") refl, u, (IsUtf8-are_ascii (codes "time") refl, moment_utf8 time t, tt))),
+  ),
+)
 
 parts_ordered : (payload block : List ℕ) (seq : ℕ) (subject : List ℕ) (time : ℕ) → in_order (parts_data payload block seq subject time) ≡ true
 parts_ordered payload [] seq subject time = refl
@@ -146,7 +152,13 @@ acks domain stream seq false d s n =
 pub ack_faults : (domain stream : List ℕ) (code err_code : ℕ) (text : List ℕ) → is_name domain ≡ true → is_name stream ≡ true → code < 2 ^ 32 → err_code < 2 ^ 32 → IsUtf8 text
     → IsLineOf (ack_fault_data domain stream code err_code text) (ack_fault_text domain stream code err_code text)
 ack_faults domain stream code err_code text d s c e t =
-    line_of (ack_fault_data domain stream code err_code text)
-    (IsUtf8-are_ascii (codes "domain") refl, name_utf8 domain d, (IsUtf8-are_ascii (codes "error") refl, error_plain code err_code text c e t,
-    (IsUtf8-are_ascii (codes "seq") refl, omega arith, (IsUtf8-are_ascii (codes "stream") refl, name_utf8 stream s, tt))))
+    line_of (ack_fault_data domain stream code err_code text) (
+      IsUtf8-are_ascii (codes "domain") refl,
+      name_utf8 domain d,
+      (
+        IsUtf8-are_ascii (codes "error") refl,
+        error_plain code err_code text c e t,
+        (IsUtf8-are_ascii (codes "seq") refl, omega arith, (IsUtf8-are_ascii (codes "stream") refl, name_utf8 stream s, tt)),
+      ),
+    )
     refl (omega arith)

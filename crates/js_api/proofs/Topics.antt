@@ -1,6 +1,6 @@
 -- A subject is a request of the API exactly where it is that of one of the nine.
 use Rattle.std.proofs.Common.{◌≡◌, append_assoc, ℕ, List, [], ◌∷◌, ◌++◌, Bool, true, false, ◌&&◌, cond, Option, None, Some, refl, sym, ap, ◌∙◌, subst}
-use Rattle.std.specs.Prelude.{codes, option_and_then}
+use Rattle.std.specs.Prelude.{codes}
 use Rattle.std.specs.List.{join_with_byte}
 use Rattle.std.specs.Str.{bytes_eq}
 use Rattle.std.proofs.lemmas.Bool.{and_parts}
@@ -95,10 +95,10 @@ short_verb_is group word verb h =
     let consumers : Option Verb = cond (bytes_eq group (codes "CONSUMER") && bytes_eq word (codes "CREATE")) (Some Consumer) None in
     let P : Bool → Type 0 = λ b. bytes_eq group (codes "STREAM") ≡ b → cond b (stream_verb word) consumers ≡ Some verb → Begins (short_front group word) verb in
     let other : consumers ≡ Some verb → Begins (short_front group word) verb = λ k.
-        let t = tested (bytes_eq group (codes "CONSUMER") && bytes_eq word (codes "CREATE")) (Some Consumer) verb k in
-        let p = and_parts (bytes_eq group (codes "CONSUMER")) (bytes_eq word (codes "CREATE")) t.0 in
-        ap (λ g. short_front g word) (equal_bytes group (codes "CONSUMER") p.0)
-        ∙ (ap (λ w. short_front (codes "CONSUMER") w) (equal_bytes word (codes "CREATE") p.1) ∙ ap beginning (same_Some Consumer verb t.1)) in
+    let t = tested (bytes_eq group (codes "CONSUMER") && bytes_eq word (codes "CREATE")) (Some Consumer) verb k in
+    let p = and_parts (bytes_eq group (codes "CONSUMER")) (bytes_eq word (codes "CREATE")) t.0 in
+    ap (λ g. short_front g word) (equal_bytes group (codes "CONSUMER") p.0)
+    ∙ (ap (λ w. short_front (codes "CONSUMER") w) (equal_bytes word (codes "CREATE") p.1) ∙ ap beginning (same_Some Consumer verb t.1)) in
     let go : (b : Bool) → P b = λ b. elim b as P [
       | true ↦ (λ e k. ap (λ g. short_front g word) (equal_bytes group (codes "STREAM") e) ∙ stream_verb_is word verb k)
       | false ↦ (λ e k. other k)
@@ -133,7 +133,7 @@ behind_is (group ∷ word ∷ []) topic h =
     let p = and_parts (bytes_eq group (codes "STREAM")) (bytes_eq word (codes "NAMES")) t.0 in
     let e : Names ≡ topic = same_Some Names topic t.1 in
     let spelled : joined (group ∷ word ∷ []) ≡ subject_of Names =
-        ap (λ g. joined (g ∷ word ∷ [])) (equal_bytes group (codes "STREAM") p.0) ∙ ap (λ w. joined (codes "STREAM" ∷ w ∷ [])) (equal_bytes word (codes "NAMES") p.1) in
+    ap (λ g. joined (g ∷ word ∷ [])) (equal_bytes group (codes "STREAM") p.0) ∙ ap (λ w. joined (codes "STREAM" ∷ w ∷ [])) (equal_bytes word (codes "NAMES") p.1) in
     subst (λ x. IsTopic x × (subject_of x ≡ joined (group ∷ word ∷ []))) e (tt, sym spelled)
 behind_is (group ∷ word ∷ name ∷ []) topic h =
     let a = about_is (short_front group word) (short_verb group word) name topic (λ v k. short_verb_is group word v k) h in
@@ -152,8 +152,8 @@ words_are (system ∷ api ∷ word ∷ words) topic h =
     let p = and_parts (bytes_eq system (codes "$JS")) (bytes_eq api (codes "API")) t.0 in
     let b = behind_is (word ∷ words) topic t.1 in
     let spelled : join_with_byte 46 (system ∷ api ∷ word ∷ words) ≡ joined (word ∷ words) =
-        ap (λ s. join_with_byte 46 (s ∷ api ∷ word ∷ words)) (equal_bytes system (codes "$JS") p.0)
-        ∙ ap (λ a. join_with_byte 46 (codes "$JS" ∷ a ∷ word ∷ words)) (equal_bytes api (codes "API") p.1) in
+    ap (λ s. join_with_byte 46 (s ∷ api ∷ word ∷ words)) (equal_bytes system (codes "$JS") p.0)
+    ∙ ap (λ a. join_with_byte 46 (codes "$JS" ∷ a ∷ word ∷ words)) (equal_bytes api (codes "API") p.1) in
     (b.0, b.1 ∙ sym spelled)
 
 pub read_is : (subject : List ℕ) (topic : Topic) → topic_of subject ≡ Some topic → IsTopic topic × (subject_of topic ≡ subject)

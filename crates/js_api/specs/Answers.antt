@@ -1,26 +1,22 @@
 -- The JSON of answers and of acknowledgements (the JetStream API of NATS). The members of each object stand
 -- in byte order of their names.
-use Rattle.std.specs.Prelude.{◌≡◌, ℕ, List, [], ◌∷◌, ◌++◌, Bool, true, false, Option, None, Some, codes, map}
+use Rattle.std.specs.Prelude.{◌≡◌, ℕ, List, [], ◌∷◌, Bool, true, false, Option, None, Some, codes, map}
 use Rattle.std.specs.Str.{IsUtf8}
 use Rattle.base64.specs.Engines.{standard}
 use Rattle.base64.specs.GeneralPurpose.{encode_of}
-use Rattle.serde_json.specs.Data.{Data, number, unsigned, boolean, string, array, object, Members, no_members, member, put}
+use Rattle.serde_json.specs.Data.{Data, boolean, string, array, object, Members, no_members, member, put}
 use Rattle.serde_json.specs.View.{items_of}
 use Rattle.serde_json.specs.Written.{compact_text}
 use Rattle.nats_text.specs.Headers.{written}
 use Rattle.stream_fold.specs.declared.config.Config.{Config}
 use Rattle.stream_fold.specs.declared.entry.Numbered.{Numbered}
-use Rattle.config_json.specs.Writing.{config_data, is_text}
+use Rattle.config_json.specs.Writing.{config_data, is_text, whole}
 use Rattle.moments.specs.Moments.{moment_text}
 use Rattle.js_api.specs.declared.call.ApiCall.{ApiCall}
 use Rattle.js_api.specs.declared.call.ApiCall.TheVariants as call
 use Rattle.js_api.specs.declared.reply.ApiReply.{ApiReply}
 use Rattle.js_api.specs.declared.reply.ApiReply.TheVariants.{Made, Info, Done, Purged, Listed, Found, Fault}
 use Rattle.js_api.specs.declared.reply.StateFacts.{StateFacts}
-
--- a number in JSON
-abbrev pub whole : ℕ → Data
-whole n = number (unsigned n)
 
 -- bytes as a text of base64 with padding (RFC 4648, section 4)
 abbrev pub base64_data : List ℕ → Data

@@ -3,10 +3,11 @@ use Rattle.std.specs.Prelude.{◌≡◌, ℕ, List, [], ◌∷◌, Bool, true, f
 use Rattle.std.specs.Option.{option_map_or}
 use Rattle.std.specs.Str.{bytes_eq, IsUtf8}
 use Rattle.serde_json.specs.Data.{Data, object, no_members}
-use Rattle.serde_json.specs.Find.{get, as_number, as_str, as_u64, as_object}
-use Rattle.nats_text.specs.Text.{is_pattern, is_subject}
+use Rattle.serde_json.specs.Find.{get, as_str, as_object}
+use Rattle.nats_text.specs.Text.{is_subject}
 use Rattle.stream_fold.specs.declared.config.Config.{Config}
 use Rattle.config_json.specs.Answers.{and_then}
+use Rattle.config_json.specs.Others.{maybe, pattern_of, whole_of}
 use Rattle.config_json.specs.Reading.{config_in, data_of}
 use Rattle.config_json.specs.declared.fault.ApiFault.{ApiFault}
 use Rattle.config_json.specs.declared.fault.ApiFault.TheVariants.{BadRequest, BadConfig, NotForClients, NotApi, NoMemory}
@@ -33,22 +34,9 @@ object_of (b ∷ bs) = option_and_then if_object (data_of (b ∷ bs))
 
 -- ---- members
 
--- a whole number from 0 on, with neither a fraction nor an exponent
-abbrev pub whole_of : Data → Option ℕ
-whole_of d = option_and_then as_u64 (as_number d)
-
--- a text that is a pattern
-abbrev pub pattern_of : Data → Option (List ℕ)
-pattern_of d = option_and_then (λ t. if is_pattern t then Some t else None) (as_str d)
-
 -- a text that is a subject
 abbrev pub subject_text : Data → Option (List ℕ)
 subject_text d = option_and_then (λ t. if is_subject t then Some t else None) (as_str d)
-
--- a member that may be absent; where it stands, it has to be such a value
-abbrev pub if_there : {A : Type 0} → (Data → Option A) → Option Data → Option (Option A)
-if_there value None = Some None
-if_there value (Some d) = option_map (λ a. Some a) (value d)
 
 -- from which of the names on they are listed: from the first one, where the member is absent
 abbrev pub offset_of : Data → Option ℕ
@@ -76,7 +64,7 @@ abbrev pub purge_of : List ℕ → Data → Option ApiCall
 purge_of name d =
     if keeps_none d then
     option_and_then (λ below. option_map (λ pattern. call.Purge name pattern below)
-    (if_there pattern_of (get (codes "filter") d))) (if_there whole_of (get (codes "seq") d))
+    (maybe pattern_of (get (codes "filter") d))) (maybe whole_of (get (codes "seq") d))
     else None
 
 -- the deletion of a message that an object asks for

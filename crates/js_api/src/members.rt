@@ -3,7 +3,8 @@ ghost use Rattle.std.specs.Prelude.{◌≡◌, codes, None, Some, if◌then◌el
 ghost use Rattle.serde_json.specs.Find.{get, as_str};
 ghost use Rattle.serde_json.specs.View.{view};
 ghost use Rattle.nats_text.specs.Text.{is_pattern, is_subject};
-ghost use Rattle.js_api.specs.Requests.{whole_of, pattern_of, subject_text, if_there, offset_of, keeps_none, which_from, which_of, is_named};
+ghost use Rattle.config_json.specs.Others.{maybe, pattern_of, whole_of};
+ghost use Rattle.js_api.specs.Requests.{subject_text, offset_of, keeps_none, which_from, which_of, is_named};
 
 use crate::Which2;
 use nats_text::{Name, NoMemory, Pattern, Subject, TextFault};
@@ -66,7 +67,7 @@ pub(crate) fn seq_of(value: &Value) -> Option<u64>
 
 /// The member `seq` of a request that may have it.
 pub(crate) fn below_of(value: &Value) -> Option<Option<u64>>
-    ensures { result ≡ if_there whole_of (get (codes "seq") (view value.now)) }
+    ensures { result ≡ maybe whole_of (get (codes "seq") (view value.now)) }
 {
     match value.get("seq") {
         Some(member) => Some(Some(whole_of(member)?)),
@@ -76,7 +77,7 @@ pub(crate) fn below_of(value: &Value) -> Option<Option<u64>>
 
 /// The member `filter` of a request that may have it.
 pub(crate) fn filter_of(alloc: Global, value: &Value) -> Result<Option<Option<Pattern>>, NoMemory>
-    ensures { IfOk result (λ it. it ≡ if_there pattern_of (get (codes "filter") (view value.now))) }
+    ensures { IfOk result (λ it. it ≡ maybe pattern_of (get (codes "filter") (view value.now))) }
 {
     match value.get("filter") {
         Some(member) => Ok(pattern_of(alloc, member)?.map(Some)),

@@ -19,29 +19,19 @@ pub enum ApiRefusal {
     /// No such message is kept.
     NoMessage,
     /// This member of the configuration is wrong.
-    BadConfig {
-        member: Bytes,
-    },
+    BadConfig { member: Bytes },
     /// The stream `other` has a subject in common.
-    Overlap {
-        other: Name,
-    },
+    Overlap { other: Name },
     /// The stream is a mirror, which takes no publish.
     IsMirror,
     /// This header isn't taken.
-    BadHeader {
-        name: Bytes,
-    },
+    BadHeader { name: Bytes },
     /// The publish expects another stream.
     WrongStream,
     /// The publish expects another last number than `kept`.
-    WrongLast {
-        kept: u64,
-    },
+    WrongLast { kept: u64 },
     /// The publish expects another last number of its subject than `kept`.
-    WrongSubjectLast {
-        kept: u64,
-    },
+    WrongSubjectLast { kept: u64 },
     /// The message is too large for the stream.
     TooLarge,
     /// The stream has had its last number.

@@ -128,12 +128,7 @@ fn or_bad(call: Option<ApiCall>) -> Result<ApiCall, ApiFault>
     }
 }
 
-fn read_about(
-    alloc: Global,
-    verb: Verb,
-    name: Name,
-    value: &Value,
-) -> Result<ApiCall, ApiFault>
+fn read_about(alloc: Global, verb: Verb, name: Name, value: &Value) -> Result<ApiCall, ApiFault>
     ensures { IsRead result (read_about verb name (view value.now)) }
 {
     match verb {

@@ -28,10 +28,7 @@ pub(crate) enum Topic {
     /// The names of the streams.
     Names,
     /// Something about the stream of this name.
-    Stream {
-        verb: Verb,
-        name: Name,
-    },
+    Stream { verb: Verb, name: Name },
 }
 
 /// `STREAM.<word>`.

@@ -1,8 +1,8 @@
 //! The JSON of a stream: its configuration and what is told of its messages.
-ghost use Rattle.std.specs.Prelude.{◌≡◌, true, codes, IfOk, OnOk};
+ghost use Rattle.std.specs.Prelude.{◌≡◌, true, false, codes, IfOk, OnOk};
 ghost use Rattle.serde_json.specs.View.{view, members_view};
-ghost use Rattle.serde_json.specs.Written.{compact_text};
-ghost use Rattle.config_json.specs.Writing.{is_text};
+ghost use Rattle.serde_json.specs.Written.{compact_text, has_float};
+ghost use Rattle.config_json.specs.Writing.{config_data, is_text};
 ghost use Rattle.js_api.specs.Answers.{state_data, flag_put, stream_data};
 
 use crate::StateFacts;
@@ -48,7 +48,8 @@ fn stream_value(
     kind: &str,
 ) -> Result<Value, NoMemory>
     requires { is_text config.now ≡ true }
-    ensures { IfOk result (λ value. view value ≡ stream_data config.now facts.now created kind.now) }
+    ensures value { IfOk result (λ value. view value ≡ stream_data config.now facts.now created kind.now) }
+    ensures plain { IfOk result (λ _. has_float (config_data config.now) ≡ false) }
 {
     let mut members = Map::new(alloc);
     let config = config_value(alloc, config)?;

@@ -7,7 +7,7 @@ use Rattle.std.proofs.lemmas.Bool.{and_parts, ltb-true}
 use Rattle.std.proofs.lemmas.Str.{IsUtf8-append, IsUtf8-from_ascii, IsUtf8-from_is_utf8}
 use Rattle.json.proofs.Printed.Utf8.{IsUtf8-are_ascii}
 use Rattle.nats_text.specs.Text.{is_name, is_name_byte, is_subject, is_literal_token, tokens}
-use Rattle.js_api.specs.Refusals.{row, HasText}
+use Rattle.js_api.specs.Refusals.{row, own_text}
 use Rattle.js_api.specs.declared.refusal.ApiRefusal.{ApiRefusal}
 use Rattle.js_api.specs.declared.refusal.ApiRefusal.TheVariants as refusal
 
@@ -40,7 +40,7 @@ subject_utf8 w h =
 
 -- ---- descriptions
 
-pub row_utf8 : (refusal : ApiRefusal) → HasText refusal → IsUtf8 (row refusal).text
+pub row_utf8 : (refusal : ApiRefusal) → IsUtf8 (own_text refusal) → IsUtf8 (row refusal).text
 row_utf8 refusal.NoStream h = IsUtf8-are_ascii (codes "stream not found") refl
 row_utf8 refusal.NameTaken h = IsUtf8-are_ascii (codes "stream name already in use with a different configuration") refl
 row_utf8 refusal.NoMessage h = IsUtf8-are_ascii (codes "no message found") refl

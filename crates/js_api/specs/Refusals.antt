@@ -65,6 +65,27 @@ own_text NotForClients = []
 own_text BadRequest = []
 own_text TooMany = []
 
--- what the description ends in is UTF-8, as a stream's name and a number always are
+-- a member or a header that is told is UTF-8
 abbrev pub HasText : ApiRefusal → Type 0
-HasText refusal = IsUtf8 (own_text refusal)
+HasText NoStream = Unit {0}
+HasText NameTaken = Unit {0}
+HasText NoMessage = Unit {0}
+HasText (BadConfig member) = IsUtf8 member
+HasText (Overlap other) = Unit {0}
+HasText IsMirror = Unit {0}
+HasText (BadHeader name) = IsUtf8 name
+HasText WrongStream = Unit {0}
+HasText (WrongLast kept) = Unit {0}
+HasText (WrongSubjectLast kept) = Unit {0}
+HasText TooLarge = Unit {0}
+HasText SeqEnd = Unit {0}
+HasText Full = Unit {0}
+HasText TooManyStreams = Unit {0}
+HasText TooManyConsumers = Unit {0}
+HasText JournalFull = Unit {0}
+HasText DiskFault = Unit {0}
+HasText BadJournal = Unit {0}
+HasText NoMemory = Unit {0}
+HasText NotForClients = Unit {0}
+HasText BadRequest = Unit {0}
+HasText TooMany = Unit {0}

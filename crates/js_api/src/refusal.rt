@@ -1,11 +1,12 @@
 ghost use Rattle.std.specs.Prelude.{◌≡◌, ◌++◌, codes, decimal, string_bytes, IfOk, OnOk, OnErr};
 ghost use Rattle.std.specs.Str.{IsUtf8};
+ghost use Rattle.js_api.specs.Answers.{HasTexts};
 ghost use Rattle.js_api.specs.Refusals.{row, own_text, HasText};
 ghost use Rattle.js_api.specs.declared.reply.ApiReply.{ApiReply as Reply};
 ghost use Rattle.js_api.specs.declared.reply.ApiReply.TheVariants.{Fault};
 
 use crate::ApiReply;
-use crate::text::{push_number, push_text};
+use crate::text::{push_name, push_number, push_text};
 use nats_text::{Bytes, Name, NoMemory};
 use std::alloc::Global;
 
@@ -135,11 +136,12 @@ impl ApiRefusal {
 
     /// Adds what the description ends in of the refusal's own: a member, a stream, a header or a number.
     fn push_own(&self, text: &mut Vec<u8>) -> Result<(), NoMemory>
-        ensures { OnOk result (text.new.items ≡ text.old.items ++ own_text self.now) }
+        ensures value { OnOk result (text.new.items ≡ text.old.items ++ own_text self.now) }
+        ensures utf8 { HasText self.now → OnOk result (IsUtf8 (own_text self.now)) }
     {
         match self {
             ApiRefusal::BadConfig { member } => push_text(text, member.as_slice()),
-            ApiRefusal::Overlap { other } => push_text(text, other.bytes()),
+            ApiRefusal::Overlap { other } => push_name(text, other),
             ApiRefusal::BadHeader { name } => push_text(text, name.as_slice()),
             ApiRefusal::WrongLast { kept } | ApiRefusal::WrongSubjectLast { kept } => {
                 push_number(text, *kept)
@@ -163,7 +165,10 @@ impl ApiRefusal {
 
     /// The refusal as the answer to a request.
     pub fn reply(&self, alloc: Global) -> Result<ApiReply, NoMemory>
-        ensures { IfOk result (λ reply. reply ≡ Fault (row self.now).code (row self.now).err_code (row self.now).text) }
+        ensures value { IfOk result (λ reply. reply ≡ Fault (row self.now).code (row self.now).err_code (row self.now).text) }
+
+        // It can be written where what the description is made of is UTF-8.
+        ensures texts { HasText self.now → IfOk result HasTexts }
     {
         Ok(ApiReply::Fault {
             code: self.code(),

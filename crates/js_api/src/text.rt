@@ -25,10 +25,19 @@ pub(crate) fn push_text(text: &mut Vec<u8>, more: &[u8]) -> Result<(), NoMemory>
 
 /// Adds a number.
 pub(crate) fn push_number(text: &mut Vec<u8>, number: u64) -> Result<(), NoMemory>
-    ensures { OnOk result (text.new.items ≡ text.old.items ++ decimal number) }
+    ensures value { OnOk result (text.new.items ≡ text.old.items ++ decimal number) }
+    ensures utf8 { IsUtf8 (decimal number) }
 {
     let mut digits = Buffer::new();
     push_text(text, digits.format(number).as_bytes())
+}
+
+/// Adds a name.
+pub(crate) fn push_name(text: &mut Vec<u8>, name: &Name) -> Result<(), NoMemory>
+    ensures value { OnOk result (text.new.items ≡ text.old.items ++ name.now) }
+    ensures utf8 { IsUtf8 name.now }
+{
+    push_text(text, name.bytes())
 }
 
 /// The text of JSON without fractions.

@@ -1,0 +1,6 @@
+mod Empties
+mod Floats
+mod Json
+mod Names
+mod ReadBack
+mod Written

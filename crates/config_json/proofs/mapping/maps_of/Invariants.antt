@@ -1,0 +1,9 @@
+use Rattle.std.proofs.Common.{◌≡◌, ◌++◌, drop}
+use Rattle.std.specs.Prelude.{option_map}
+use Rattle.serde_json.specs.View.{items_view}
+use Rattle.config_json.specs.Origins.{maps_of}
+use Rattle.config_json.proofs.mapping.maps_of.Given as goal
+
+-- the maps so far stand before those of the other values
+abbrev pub invariant-loop-value : goal.invariant-loop-value
+invariant-loop-value l = maps_of (items_view l.values) ≡ option_map (λ ps. l.maps ++ ps) (maps_of (items_view (drop l.value-index l.values)))

@@ -1,0 +1,7 @@
+mod Floats
+mod Json
+mod Lines
+mod OneLine
+mod Texts
+mod Topics
+mod Words

@@ -1,0 +1,8 @@
+use Rattle.std.proofs.Common.{◌≡◌, take, map}
+use Rattle.serde_json.specs.Data.{string}
+use Rattle.serde_json.specs.View.{view}
+use Rattle.js_api.proofs.answer.names_value.Given as goal
+
+-- the names so far are there
+abbrev pub invariant-loop-name : goal.invariant-loop-name
+invariant-loop-name l = map view l.values.items ≡ map string (take l.name-index l.names)

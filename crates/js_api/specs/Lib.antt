@@ -1,0 +1,5 @@
+pub mod Answers
+pub mod Laws
+pub mod Refusals
+pub mod Requests
+pub mod Subjects

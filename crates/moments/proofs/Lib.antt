@@ -1,0 +1,2 @@
+mod Calendar
+pub mod Clock

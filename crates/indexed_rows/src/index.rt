@@ -1,0 +1,183 @@
+ghost use Rattle.std.specs.Prelude.{◌≡◌, ◌<◌, ◌+◌, ◌^◌, ◌++◌, ◌∷◌, [], ◌==◌, true, false, not, filter, length, count_by, slice_get, option_map, Some, OnOk, OnErr};
+ghost use Rattle.std.specs.Option.{option_copied};
+ghost use Rattle.std.specs.Str.{bytes_eq};
+ghost use Rattle.nats_text.specs.Sizes.{size};
+ghost use Rattle.stream_fold.specs.Counting.{pushed_out};
+ghost use Rattle.stream_fold.specs.Histories.{message_at, size_of};
+ghost use Rattle.stream_fold.specs.Publishing.{last_of, next_match, is_next};
+ghost use Rattle.stream_fold.specs.RowLists.{with_place, EachRow};
+ghost use Rattle.indexed_rows.specs.Indexes.{IsIndexed, rows_of, ready_in, seq_in, is_of};
+
+use crate::by_number::ByNumber;
+use crate::subjects::{
+    Subjects, count_listed, drop_if_empty, first_listed, last_listed, list_number, reserve_number,
+    unlist_number,
+};
+use nats_text::{Message, NoMemory, Pattern, Subject, matches};
+use std::alloc::Global;
+use stream_fold::Numbered;
+
+/// What the indexes are made of. `coming` is the subject for whose next message places are ready. The
+/// times of messages need not rise: `in_order` says that they do, up to `latest`, as in a stream whose
+/// messages were all stored as they came.
+#[derive(Drop)]
+pub struct Index {
+    pub alloc: Global,
+    pub messages: ByNumber<Message>,
+    pub subjects: Subjects,
+    pub total: u64,
+    pub latest: u64,
+    pub in_order: bool,
+    pub coming: Option<Vec<u8>>,
+}
+
+/// The greatest number of a subject.
+pub fn last_of(index: &Index, subject: &[u8]) -> Option<u64>
+    requires { IsIndexed index.now }
+    ensures { result ≡ last_of subject.now (rows_of index.now.messages.items) }
+{
+    last_listed(&index.subjects, subject)
+}
+
+/// How many messages of a subject are kept.
+pub fn count_of(index: &Index, subject: &[u8]) -> usize
+    requires { IsIndexed index.now }
+    ensures { result ≡ count_by (is_of subject.now) (rows_of index.now.messages.items) }
+{
+    count_listed(&index.subjects, subject)
+}
+
+/// The least number of a subject.
+pub fn first_of(index: &Index, subject: &[u8]) -> Option<u64>
+    requires { IsIndexed index.now }
+    ensures { result ≡ seq_in (slice_get (filter (is_of subject.now) (rows_of index.now.messages.items)) 0) }
+{
+    first_listed(&index.subjects, subject)
+}
+
+/// The first message of a subject, where a new one of it is one too many.
+pub fn pushed_out<'a>(index: &'a Index, most: u64, subject: &[u8]) -> Option<&'a Message>
+    requires { IsIndexed index.now }
+    ensures { option_copied result ≡ option_map (λ row. row.message) (pushed_out most subject.now (rows_of index.now.messages.items)) }
+{
+    if most == 0 || (count_of(index, subject) as u64) < most {
+        return None;
+    }
+    index.messages.get(first_of(index, subject)?)
+}
+
+/// The least number at or after `from` of a subject that one of the filters matches. Without a filter it
+/// is the first one that is looked at.
+pub fn next_match(index: &Index, from: u64, filters: &[Pattern]) -> Option<u64>
+    ensures { result ≡ next_match from filters.now (rows_of index.now.messages.items) }
+{
+    let mut next = from;
+    while let Some((seq, message)) = index.messages.next_from(next) {
+        if is_taken(filters, &message.subject) {
+            return Some(seq);
+        }
+        if seq == u64::MAX {
+            return None;
+        }
+        next = seq + 1;
+    }
+    None
+}
+
+fn is_taken(filters: &[Pattern], subject: &Subject) -> bool {
+    filters.is_empty() || filters.iter().any(|pattern| matches(pattern, subject))
+}
+
+/// Makes places for a message of the subject, and takes those away that were made for another subject
+/// and not used. Without memory those stay.
+pub fn reserve(index: &mut Index, subject: &Subject) -> Result<(), NoMemory>
+    requires { IsIndexed index.old }
+    ensures indexed { IsIndexed index.new }
+    ensures rows { rows_of index.new.messages.items ≡ rows_of index.old.messages.items }
+    ensures ok { OnOk result (ready_in index.new.coming ≡ Some subject.now) }
+    ensures err { OnErr result (ready_in index.new.coming ≡ ready_in index.old.coming) }
+{
+    let coming = Vec::from_slice(index.alloc, subject.bytes())?;
+    index.messages.reserve()?;
+    reserve_number(index.alloc, &mut index.subjects, subject.bytes())?;
+    let earlier = index.coming.replace(coming);
+    if let Some(earlier) = earlier {
+        drop_unused(&mut index.subjects, &earlier, subject.bytes());
+    }
+    Ok(())
+}
+
+/// Lets the place of an earlier subject go, where it was not used and isn't that of the other one.
+fn drop_unused(subjects: &mut Subjects, earlier: &[u8], other: &[u8]) {
+    if earlier != other {
+        drop_if_empty(subjects, earlier);
+    }
+}
+
+/// Adds a message for which places are ready, under a number above all others.
+pub fn push(index: &mut Index, row: Numbered)
+    requires indexed { IsIndexed index.old }
+    requires ready { ready_in index.old.coming ≡ Some row.message.subject }
+    requires above { EachRow (λ r. r.seq < row.seq) (rows_of index.old.messages.items) }
+    requires total { size_of (rows_of index.old.messages.items) + size row.message < 2 ^ 64 }
+    ensures indexed { IsIndexed index.new }
+    ensures rows { rows_of index.new.messages.items ≡ rows_of index.old.messages.items ++ row ∷ [] }
+{
+    let Numbered { seq, message } = row;
+    note_time(index, message.time);
+    index.total += message.size() as u64;
+    list_number(&mut index.subjects, message.subject.bytes(), seq);
+    index.messages.push(seq, message);
+    index.coming = None;
+}
+
+/// Keeps in mind whether the times rise with this one. With no message they do.
+fn note_time(index: &mut Index, time: u64) {
+    if index.messages.len() == 0 {
+        index.in_order = true;
+        index.latest = 0;
+    }
+    index.in_order = index.in_order && index.latest <= time;
+    index.latest = index.latest.max(time);
+}
+
+/// Takes the message of a number away.
+pub fn delete(index: &mut Index, seq: u64)
+    requires { IsIndexed index.old }
+    ensures indexed { IsIndexed index.new }
+    ensures rows { rows_of index.new.messages.items ≡ filter (λ row. not (row.seq == seq)) (rows_of index.old.messages.items) }
+    ensures ready { index.new.coming ≡ index.old.coming }
+{
+    let Some(message) = index.messages.remove(seq) else {
+        return;
+    };
+    index.total -= message.size() as u64;
+    let subject = message.subject.bytes();
+    unlist_number(&mut index.subjects, subject, seq);
+    if !is_coming(index, subject) {
+        drop_if_empty(&mut index.subjects, subject);
+    }
+}
+
+/// Whether places are ready for a message of the subject.
+fn is_coming(index: &Index, subject: &[u8]) -> bool {
+    match &index.coming {
+        Some(coming) => coming.as_slice() == subject,
+        None => false,
+    }
+}
+
+/// Takes the first message of a subject away, where so many and one more stand.
+pub fn make_place(index: &mut Index, subject: &[u8], most: u64)
+    requires { IsIndexed index.old }
+    ensures indexed { IsIndexed index.new }
+    ensures rows { rows_of index.new.messages.items ≡ with_place most subject.now (rows_of index.old.messages.items) }
+    ensures ready { index.new.coming ≡ index.old.coming }
+{
+    if most == 0 || (count_of(index, subject) as u64) < most {
+        return;
+    }
+    if let Some(seq) = first_of(index, subject) {
+        delete(index, seq);
+    }
+}

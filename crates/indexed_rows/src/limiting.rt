@@ -1,0 +1,70 @@
+ghost use Rattle.std.specs.Prelude.{◌≡◌, length};
+ghost use Rattle.stream_fold.specs.Histories.{newest_of_each, newest_within};
+ghost use Rattle.stream_fold.specs.RowLists.{counts_within};
+ghost use Rattle.indexed_rows.specs.Indexes.{IsIndexed, rows_of};
+
+use crate::index::{Index, count_of, delete};
+use nats_text::Message;
+use stream_fold::Config;
+
+/// Takes the oldest messages away that the limits on count and bytes don't allow.
+pub fn drop_excess(index: &mut Index, config: &Config)
+    requires { IsIndexed index.old }
+    ensures indexed { IsIndexed index.new }
+    ensures rows { rows_of index.new.messages.items ≡ newest_within config.now (rows_of index.old.messages.items) }
+{
+    while !are_within(config, index.messages.len(), index.total) {
+        match index.messages.first() {
+            Some(seq) => delete(index, seq),
+            None => return,
+        }
+    }
+}
+
+/// Whether so many messages of so many bytes are within the limits.
+fn are_within(config: &Config, count: usize, bytes: u64) -> bool
+    ensures { result ≡ counts_within config.now count bytes }
+{
+    let few = config.max_msgs == 0 || count as u64 <= config.max_msgs;
+    few && (config.max_bytes == 0 || bytes <= config.max_bytes)
+}
+
+/// Takes the older messages of each subject away that has more than so many, in one walk: a message
+/// that comes while its subject has more is the first of its subject.
+pub fn keep_newest_of_each(index: &mut Index, most: u64)
+    requires { IsIndexed index.old }
+    ensures indexed { IsIndexed index.new }
+    ensures rows { rows_of index.new.messages.items ≡ newest_of_each most (rows_of index.old.messages.items) }
+{
+    let mut next = 0;
+    while let Some(seq) = number_from(index, next) {
+        if is_one_too_many(index, seq, most) {
+            delete(index, seq);
+        }
+        if seq == u64::MAX {
+            return;
+        }
+        next = seq + 1;
+    }
+}
+
+/// The first number from this one on.
+pub fn number_from(index: &Index, from: u64) -> Option<u64> {
+    let (seq, _) = index.messages.next_from(from)?;
+    Some(seq)
+}
+
+fn is_one_too_many(index: &Index, seq: u64, most: u64) -> bool
+    requires { IsIndexed index.now }
+{
+    match index.messages.get(seq) {
+        Some(message) => has_more(index, message, most),
+        None => false,
+    }
+}
+
+fn has_more(index: &Index, message: &Message, most: u64) -> bool
+    requires { IsIndexed index.now }
+{
+    most < count_of(index, message.subject.bytes()) as u64
+}

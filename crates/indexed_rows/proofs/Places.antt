@@ -1,6 +1,7 @@
 -- Subjects in byte order: what a change under one subject leaves under any subject.
-use Rattle.std.proofs.Common.{◌≡◌, ℕ, Bool, true, false, cond, if◌then◌else◌, List, [], ◌∷◌, ◌++◌, Option, Some, None, inl, inr, refl, sym, ap, ◌∙◌, subst, Ordering, not, eqb}
-use Rattle.std.specs.Prelude.{filter, ⊤}
+use Rattle.std.proofs.Common.{◌≡◌, ℕ, Bool, true, false, cond, if◌then◌else◌, List, [], ◌∷◌, ◌++◌, Option, Some, None, inl, inr, refl, sym, ap, ◌∙◌, subst, Ordering, not, eqb, arith}
+use Rattle.std.specs.Prelude.{filter, ⊤, length, Result, Ok, Err, OnOk, OnErr}
+use Rattle.stream_fold.specs.Publishing.{is_value}
 use Rattle.std.proofs.lemmas.Bool.{cases_Bool}
 use Rattle.std.proofs.lemmas.Map.Text.{is_eq-slice_cmp}
 use Rattle.std.proofs.lemmas.Slice.Eq.{bytes_eq-Decides}
@@ -11,8 +12,8 @@ use Rattle.std.specs.Ordering.{is_eq, nat_cmp}
 use Rattle.std.specs.BTreeMap.{BTreeMap, UpdatesBy, WritesThrough}
 use Rattle.std.specs.Map.{KeepsOthers, keys_of}
 use Rattle.std.specs.Global.{Vec}
-use Rattle.indexed_rows.specs.Entries.{Entries}
-use Rattle.indexed_rows.specs.Indexes.{Subjects, found, listed, has_place, keys_in, room_in}
+use Rattle.indexed_rows.specs.Entries.{Entries, first_number, last_number}
+use Rattle.indexed_rows.specs.Indexes.{Subjects, found, listed, has_place, keys_in, room_in, first_of_list, last_of_list, IsReady}
 
 -- the order of the keys
 abbrev pub key_cmp : Vec ℕ → Vec ℕ → Ordering
@@ -85,3 +86,58 @@ added_places subject w old new room h q had = elim (cases_Bool (bytes_eq subject
 
 pub place_here : (subject : List ℕ) (w : Entries ⊤) (old new : Subjects) → w.has_room ≡ true → Puts subject (Some w) old new → has_place subject new ≡ true
 place_here subject w old new room h = place_after subject (Some w) old new h subject ∙ rw ((bytes_eq-Decides subject subject).1 refl) room
+
+pub first_keys : (items : List (ℕ × ⊤)) → first_number items ≡ first_of_list (keys_of items)
+first_keys [] = refl
+first_keys (e ∷ es) = refl
+
+pub last_keys : (items : List (ℕ × ⊤)) → last_number items ≡ last_of_list (keys_of items)
+last_keys [] = refl
+last_keys (e ∷ es) = rw (last_keys es) refl
+
+pub keys_push : (items : List (ℕ × ⊤)) (n : ℕ) (u : ⊤) → keys_of (items ++ (n, u) ∷ []) ≡ keys_of items ++ n ∷ []
+keys_push [] n u = refl
+keys_push (e ∷ es) n u = ap (λ ks. e.0 ∷ ks) (keys_push es n u)
+
+pub keys_without : (n : ℕ) (items : List (ℕ × ⊤)) → keys_of (filter (λ e. not (eqb e.0 n)) items) ≡ filter (λ k. not (eqb k n)) (keys_of items)
+keys_without n [] = refl
+keys_without n (e ∷ es) = elim (cases_Bool (eqb e.0 n)) [
+  | inl same ↦ rw same (keys_without n es)
+  | inr other ↦ rw other (ap (λ ks. e.0 ∷ ks) (keys_without n es))
+]
+
+-- a number in a list of numbers that is extended or shortened
+pub pushed_keys : (v w : Entries ⊤) (n : ℕ) (u : ⊤) → w.items ≡ v.items ++ (n, u) ∷ [] → keys_of w.items ≡ keys_of v.items ++ n ∷ []
+pushed_keys v w n u is = ap (λ (items : List (ℕ × ⊤)). keys_of items) is ∙ keys_push v.items n u
+
+pub removed_keys : (v w : Entries ⊤) (n : ℕ) → w.items ≡ filter (λ e. not (eqb e.0 n)) v.items → keys_of w.items ≡ filter (λ k. not (eqb k n)) (keys_of v.items)
+removed_keys v w n is = ap (λ (items : List (ℕ × ⊤)). keys_of items) is ∙ keys_without n v.items
+
+pub room_of : (subject : List ℕ) (v : Entries ⊤) (old : Subjects) → found subject old ≡ Some v → has_place subject old ≡ true → v.has_room ≡ true
+room_of subject v old here had = sym (ap (λ o. room_in o) here) ∙ had
+
+pub keys_at : (subject : List ℕ) (v : Entries ⊤) (old : Subjects) → found subject old ≡ Some v → keys_of v.items ≡ listed subject old
+keys_at subject v old here = sym (ap (λ o. keys_in o) here)
+
+pub no_keys : (ks : List ℕ) → length ks ≡ 0 → ks ≡ []
+no_keys [] h = refl
+no_keys (k ∷ ks) h = absurd (omega (arith, h))
+
+-- a place that is ready stays, where each other place than that of this subject does
+pub ready_stays : (o : Option (List ℕ)) (room : Bool) (subject : List ℕ) (old new : Subjects) → is_value subject o ≡ false → ((q : List ℕ) → bytes_eq subject q ≡ false → has_place q old ≡ true → has_place q new ≡ true) → IsReady o room old → IsReady o room new
+ready_stays None room subject old new other keeps h = tt
+ready_stays (Some s) room subject old new other keeps h = (h.0, keeps s (nat_list_eq_equiv.symm subject s ∙ other) h.1)
+
+pub ready_kept : (o : Option (List ℕ)) (room : Bool) (old new : Subjects) → ((q : List ℕ) → has_place q old ≡ true → has_place q new ≡ true) → IsReady o room old → IsReady o room new
+ready_kept None room old new keeps h = tt
+ready_kept (Some s) room old new keeps h = (h.0, keeps s h.1)
+
+pub same_list : (subject : List ℕ) (v w : Entries ⊤) (old new : Subjects) → found subject old ≡ Some v → keys_of w.items ≡ keys_of v.items → Puts subject (Some w) old new → (q : List ℕ) → listed q new ≡ listed q old
+same_list subject v w old new here same h q = elim (cases_Bool (bytes_eq subject q)) [
+  | inl is ↦ listed_after subject (Some w) old new h q ∙ rw is (same ∙ ap (λ o. keys_in o) (sym here ∙ ap (λ p. found p old) ((bytes_eq-Decides subject q).0 is)))
+  | inr other ↦ listed_after subject (Some w) old new h q ∙ rw other refl
+]
+
+pub room_kept : {T E : Type 0} (r : Result T E) (old new : Bool) → OnOk r (new ≡ true) → OnErr r (new ≡ old) → old ≡ true → new ≡ true
+room_kept (Ok u) old new ok err h = ok
+room_kept (Err e) old new ok err h = err ∙ h

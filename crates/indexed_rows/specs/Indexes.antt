@@ -10,7 +10,7 @@ use Rattle.std.specs.Str.{bytes_eq}
 use Rattle.nats_text.specs.declared.message.Message.{Message}
 use Rattle.stream_fold.specs.declared.entry.Numbered.{Numbered}
 use Rattle.stream_fold.specs.Histories.{either}
-use Rattle.stream_fold.specs.RowLists.{EachRow, IsTotal, seqs}
+use Rattle.stream_fold.specs.RowLists.{EachRow, IsTotal, Rises, seqs}
 use Rattle.indexed_rows.specs.Entries.{Entries}
 use Rattle.indexed_rows.specs.declared.index.Index.{Index}
 
@@ -77,8 +77,9 @@ pub record IsInOrder (moment : ℕ) (rows : List Numbered) : Type 0 where
 abbrev pub ready_in : Option (Vec ℕ) → Option (List ℕ)
 ready_in coming = option_map (λ v. v.items) coming
 
--- the total and the indexes are those of the rows
+-- the numbers rise, and the total and the indexes are those of the rows
 pub record IsIndexed (index : Index) : Type 0 where
+  pub rises : Rises 0 (keys_of index.messages.items)
   pub total : IsTotal index.total (rows_of index.messages.items)
   pub subjects : IsIndexOf index.subjects (rows_of index.messages.items)
   pub ready : IsReady (ready_in index.coming) index.messages.has_room index.subjects

@@ -6,11 +6,11 @@ ghost use Rattle.stream_fold.specs.Counting.{pushed_out};
 ghost use Rattle.stream_fold.specs.Histories.{message_at, size_of};
 ghost use Rattle.stream_fold.specs.Publishing.{last_of, next_match, is_next};
 ghost use Rattle.stream_fold.specs.RowLists.{with_place, EachRow};
-ghost use Rattle.indexed_rows.specs.Indexes.{IsIndexed, rows_of, ready_in, seq_in, is_of};
+ghost use Rattle.indexed_rows.specs.Indexes.{IsIndexed, IsInOrder, rows_of, ready_in, seq_in, is_of};
 
 use crate::by_number::ByNumber;
 use crate::subjects::{
-    Subjects, count_listed, drop_if_empty, first_listed, last_listed, list_number, reserve_number,
+    Subjects, count_listed, drop_unused, first_listed, last_listed, list_number, reserve_number,
     unlist_number,
 };
 use nats_text::{Message, NoMemory, Pattern, Subject, matches};
@@ -100,18 +100,9 @@ pub fn reserve(index: &mut Index, subject: &Subject) -> Result<(), NoMemory>
     let coming = Vec::from_slice(index.alloc, subject.bytes())?;
     index.messages.reserve()?;
     reserve_number(index.alloc, &mut index.subjects, subject.bytes())?;
-    let earlier = index.coming.replace(coming);
-    if let Some(earlier) = earlier {
-        drop_unused(&mut index.subjects, &earlier, subject.bytes());
-    }
+    drop_unused(&mut index.subjects, &index.coming, subject.bytes());
+    index.coming = Some(coming);
     Ok(())
-}
-
-/// Lets the place of an earlier subject go, where it was not used and isn't that of the other one.
-fn drop_unused(subjects: &mut Subjects, earlier: &[u8], other: &[u8]) {
-    if earlier != other {
-        drop_if_empty(subjects, earlier);
-    }
 }
 
 /// Adds a message for which places are ready, under a number above all others.
@@ -124,21 +115,20 @@ pub fn push(index: &mut Index, row: Numbered)
     ensures rows { rows_of index.new.messages.items ≡ rows_of index.old.messages.items ++ row ∷ [] }
 {
     let Numbered { seq, message } = row;
-    note_time(index, message.time);
+    index.in_order = is_in_order(index, message.time);
+    index.latest = message.time;
     index.total += message.size() as u64;
     list_number(&mut index.subjects, message.subject.bytes(), seq);
     index.messages.push(seq, message);
     index.coming = None;
 }
 
-/// Keeps in mind whether the times rise with this one. With no message they do.
-fn note_time(index: &mut Index, time: u64) {
-    if index.messages.len() == 0 {
-        index.in_order = true;
-        index.latest = 0;
-    }
-    index.in_order = index.in_order && index.latest <= time;
-    index.latest = index.latest.max(time);
+/// Whether it is known that no message is older than one before it, and none younger than this time.
+fn is_in_order(index: &Index, time: u64) -> bool
+    requires { IsIndexed index.now }
+    ensures { result ≡ true → IsInOrder time (rows_of index.now.messages.items) }
+{
+    index.messages.len() == 0 || (index.in_order && index.latest <= time)
 }
 
 /// Takes the message of a number away.
@@ -153,18 +143,7 @@ pub fn delete(index: &mut Index, seq: u64)
     };
     index.total -= message.size() as u64;
     let subject = message.subject.bytes();
-    unlist_number(&mut index.subjects, subject, seq);
-    if !is_coming(index, subject) {
-        drop_if_empty(&mut index.subjects, subject);
-    }
-}
-
-/// Whether places are ready for a message of the subject.
-fn is_coming(index: &Index, subject: &[u8]) -> bool {
-    match &index.coming {
-        Some(coming) => coming.as_slice() == subject,
-        None => false,
-    }
+    unlist_number(&mut index.subjects, subject, seq, &index.coming);
 }
 
 /// Takes the first message of a subject away, where so many and one more stand.

@@ -1,8 +1,8 @@
-ghost use Rattle.std.specs.Prelude.{◌≡◌, ◌<◌, ◌+◌, ◌++◌, ◌∷◌, [], ℕ, true, false, not, filter, length, ◌==◌, List as Items, Option as Maybe, if◌then◌else◌, OnOk, OnErr};
-ghost use Rattle.std.specs.Map.{keys_of};
+ghost use Rattle.std.specs.Prelude.{◌≡◌, ◌++◌, ◌∷◌, [], ℕ, Bool, true, false, not, filter, length, ◌==◌, List as Items, if◌then◌else◌, OnOk};
 ghost use Rattle.std.specs.Str.{bytes_eq};
+ghost use Rattle.stream_fold.specs.Publishing.{is_value};
 ghost use Rattle.stream_fold.specs.RowLists.{Rises};
-ghost use Rattle.indexed_rows.specs.Indexes.{listed, has_place, first_of_list, last_of_list};
+ghost use Rattle.indexed_rows.specs.Indexes.{listed, has_place, first_of_list, last_of_list, ready_in, IsReady};
 
 use crate::by_number::ByNumber;
 use nats_text::NoMemory;
@@ -47,8 +47,24 @@ pub fn list_number(subjects: &mut Subjects, subject: &[u8], number: u64)
     }
 }
 
-/// Takes a number of the subject away.
-pub fn unlist_number(subjects: &mut Subjects, subject: &[u8], number: u64)
+/// Takes a number of the subject away, and the subject itself where it has no other number, and isn't
+/// the one that is ready.
+pub fn unlist_number(
+    subjects: &mut Subjects,
+    subject: &[u8],
+    number: u64,
+    coming: &Option<Vec<u8>>,
+)
+    ensures listed { (other : Items ℕ) → listed other subjects.new ≡ (if bytes_eq subject.now other then filter (λ n. not (n == number)) (listed other subjects.old) else listed other subjects.old) }
+    ensures ready { (room : Bool) → IsReady (ready_in coming.now) room subjects.old → IsReady (ready_in coming.now) room subjects.new }
+{
+    take_number(subjects, subject, number);
+    if !is_ready(coming, subject) {
+        drop_if_empty(subjects, subject);
+    }
+}
+
+fn take_number(subjects: &mut Subjects, subject: &[u8], number: u64)
     ensures listed { (other : Items ℕ) → listed other subjects.new ≡ (if bytes_eq subject.now other then filter (λ n. not (n == number)) (listed other subjects.old) else listed other subjects.old) }
     ensures places { (other : Items ℕ) → has_place other subjects.old ≡ true → has_place other subjects.new ≡ true }
 {
@@ -57,13 +73,42 @@ pub fn unlist_number(subjects: &mut Subjects, subject: &[u8], number: u64)
     }
 }
 
+/// Whether the subject is the one that is ready.
+fn is_ready(coming: &Option<Vec<u8>>, subject: &[u8]) -> bool
+    ensures { result ≡ is_value subject.now (ready_in coming.now) }
+{
+    match coming {
+        Some(coming) => coming.as_slice() == subject,
+        None => false,
+    }
+}
+
 /// Lets a subject without numbers go.
-pub fn drop_if_empty(subjects: &mut Subjects, subject: &[u8])
+fn drop_if_empty(subjects: &mut Subjects, subject: &[u8])
     ensures listed { (other : Items ℕ) → listed other subjects.new ≡ listed other subjects.old }
     ensures places { (other : Items ℕ) → bytes_eq subject.now other ≡ false → has_place other subjects.old ≡ true → has_place other subjects.new ≡ true }
 {
     if count_listed(subjects, subject) == 0 {
         subjects.remove(subject);
+    }
+}
+
+/// Lets the subject go that was ready, where it has no numbers, and isn't this one.
+pub fn drop_unused(subjects: &mut Subjects, coming: &Option<Vec<u8>>, subject: &[u8])
+    ensures listed { (other : Items ℕ) → listed other subjects.new ≡ listed other subjects.old }
+    ensures place { has_place subject.now subjects.old ≡ true → has_place subject.now subjects.new ≡ true }
+{
+    if let Some(earlier) = coming {
+        drop_other(subjects, earlier.as_slice(), subject);
+    }
+}
+
+fn drop_other(subjects: &mut Subjects, earlier: &[u8], subject: &[u8])
+    ensures listed { (other : Items ℕ) → listed other subjects.new ≡ listed other subjects.old }
+    ensures place { has_place subject.now subjects.old ≡ true → has_place subject.now subjects.new ≡ true }
+{
+    if earlier != subject {
+        drop_if_empty(subjects, earlier);
     }
 }
 

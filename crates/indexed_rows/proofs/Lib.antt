@@ -1,4 +1,5 @@
 pub mod Apart
+pub mod Changes
 pub mod Listed
 pub mod Places
 pub mod RowLemmas

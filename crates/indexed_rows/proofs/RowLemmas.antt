@@ -1,5 +1,5 @@
 -- Rows that rise: look-ups by number and by subject, and what is left where one goes or comes.
-use Rattle.std.proofs.Common.{◌≡◌, ℕ, suc, ◌<◌, ◌≤◌, ◌+◌, Bool, true, false, cond, if◌then◌else◌, not, eqb, List, [], ◌∷◌, ◌++◌, Option, Some, None, inl, inr, refl, sym, ap, subst, ◌∙◌, arith, length}
+use Rattle.std.proofs.Common.{◌≡◌, ℕ, suc, ◌<◌, ◌≤◌, ◌+◌, ◌^◌, Bool, true, false, cond, if◌then◌else◌, not, ◌&&◌, eqb, leb, List, [], ◌∷◌, ◌++◌, Option, Some, None, inl, inr, refl, sym, ap, subst, ◌∙◌, arith, length}
 use Rattle.std.specs.Prelude.{⊤, filter, map, find, count_by, slice_get}
 use Rattle.std.specs.Map.{keys_of}
 use Rattle.std.specs.Str.{bytes_eq}
@@ -15,6 +15,8 @@ use Rattle.stream_fold.specs.Publishing.{last_of}
 use Rattle.stream_fold.specs.RowLists.{EachRow, IsTotal, Rises, seqs, without_first}
 use Rattle.stream_fold.proofs.KeptRows.{EachRow-filter, EachRow-weaker}
 use Rattle.indexed_rows.specs.Entries.{value_at}
+use Rattle.std.specs.Option.{option_map}
+use Rattle.stream_fold.specs.RowLists.{with_place}
 use Rattle.indexed_rows.specs.Indexes.{rows_of, is_of, numbers_of, seq_in, first_of_list, last_of_list, TimesRise, IsInOrder}
 use Rattle.indexed_rows.proofs.Listed.{rises_weaker}
 
@@ -69,12 +71,12 @@ pub numbers-without : (n : ℕ) (q : List ℕ) (rows : List Numbered) → number
 numbers-without n q [] = refl
 numbers-without n q (row ∷ rows) = elim (cases_Bool (eqb row.seq n)) [
   | inl same ↦ elim (cases_Bool (bytes_eq row.message.subject q)) [
-    | inl here ↦ rw (same, here) (rw same (numbers-without n q rows))
-    | inr other ↦ rw (same, other) (numbers-without n q rows)
+    | inl here ↦ rw (here, same) (numbers-without n q rows)
+    | inr other ↦ rw (other, same) (numbers-without n q rows)
   ]
   | inr differs ↦ elim (cases_Bool (bytes_eq row.message.subject q)) [
-    | inl here ↦ rw (differs, here) (rw (differs, here) (ap (λ ns. row.seq ∷ ns) (numbers-without n q rows)))
-    | inr other ↦ rw (differs, other) (rw other (numbers-without n q rows))
+    | inl here ↦ rw (here, differs, here) (ap (λ ns. row.seq ∷ ns) (numbers-without n q rows))
+    | inr other ↦ rw (other, differs, other) (numbers-without n q rows)
   ]
 ]
 
@@ -221,3 +223,56 @@ without_first-none s (row ∷ rows) first = elim (cases_Bool (is_of s row)) [
   | inl here ↦ absurd (let q = rw here at first in cc)
   | inr other ↦ rw other (ap (λ rs. row ∷ rs) (without_first-none s rows (rw other at first)))
 ]
+
+first_message-low : (low n : ℕ) (s : List ℕ) (items : List (ℕ × Message)) → Rises low (keys_of items) → seq_in (slice_get (filter (is_of s) (rows_of items)) 0) ≡ Some n → value_at n items ≡ option_map (λ (r : Numbered). r.message) (slice_get (filter (is_of s) (rows_of items)) 0)
+first_message-low low n s [] h first = absurd (cc)
+first_message-low low n s (e ∷ es) h first = elim (cases_Bool (bytes_eq e.1.subject s)) [
+  | inl here ↦ (let q = same_Some e.0 n (rw here at first) in rw (here, eq-eqb e.0 n q) refl)
+  | inr other ↦ (let q = first_least (suc e.0) n s (rows_of es) (subst (λ ns. Rises (suc e.0) ns) (sym (seqs-items es)) h.1) (rw other at first) in rw (other, ne_eqb e.0 n (λ x. absurd (omega (arith, x, q)))) (first_message-low (suc e.0) n s es h.1 (rw other at first)))
+]
+
+-- the message of the first row of a subject
+pub first_message : (n : ℕ) (s : List ℕ) (items : List (ℕ × Message)) → Rises 0 (keys_of items) → seq_in (slice_get (filter (is_of s) (rows_of items)) 0) ≡ Some n → value_at n items ≡ option_map (λ (r : Numbered). r.message) (slice_get (filter (is_of s) (rows_of items)) 0)
+first_message n s items h first = first_message-low 0 n s items h first
+
+pub find-filter : (p : Numbered → Bool) (rows : List Numbered) → find p rows ≡ slice_get (filter p rows) 0
+find-filter p [] = refl
+find-filter p (row ∷ rows) = elim (cases_Bool (p row)) [
+  | inl here ↦ rw here refl
+  | inr other ↦ rw other (find-filter p rows)
+]
+
+-- nothing is there where its number isn't
+pub none_there : (o : Option Numbered) → seq_in o ≡ None → option_map (λ (r : Numbered). r.message) o ≡ None
+none_there None h = refl
+none_there (Some r) h = absurd (cc)
+
+-- ---- a place for one more
+
+each-without_first : (P : Numbered → Type 0) (s : List ℕ) (rows : List Numbered) → EachRow P rows → EachRow P (without_first s rows)
+each-without_first P s [] h = tt
+each-without_first P s (row ∷ rows) h = elim (cases_Bool (bytes_eq row.message.subject s)) [
+  | inl here ↦ rw here h.1
+  | inr other ↦ rw other (h.0, each-without_first P s rows h.1)
+]
+
+size-without_first : (s : List ℕ) (rows : List Numbered) → size_of (without_first s rows) ≤ size_of rows
+size-without_first s [] = omega arith
+size-without_first s (row ∷ rows) = elim (cases_Bool (bytes_eq row.message.subject s)) [
+  | inl here ↦ (let q : size_of rows ≤ size_of (row ∷ rows) = omega (arith, size_of-cons row rows) in rw here q)
+  | inr other ↦ (let q : size_of (row ∷ without_first s rows) ≤ size_of (row ∷ rows) = omega (arith, size_of-cons row rows, size_of-cons row (without_first s rows), size-without_first s rows) in rw other q)
+]
+
+each_cond : (P : Numbered → Type 0) (b : Bool) (xs ys : List Numbered) → EachRow P xs → EachRow P ys → EachRow P (cond b xs ys)
+each_cond P true xs ys h k = h
+each_cond P false xs ys h k = k
+
+size_cond : (b : Bool) (xs ys zs : List Numbered) → size_of xs ≤ size_of zs → size_of ys ≤ size_of zs → size_of (cond b xs ys) ≤ size_of zs
+size_cond true xs ys zs h k = h
+size_cond false xs ys zs h k = k
+
+pub each-place : (P : Numbered → Type 0) (most : ℕ) (s : List ℕ) (rows : List Numbered) → EachRow P rows → EachRow P (with_place most s rows)
+each-place P most s rows h = each_cond P (not (eqb most 0) && leb most (count_by (λ (r : Numbered). bytes_eq r.message.subject s) rows)) (without_first s rows) rows (each-without_first P s rows h) h
+
+pub size-place : (most : ℕ) (s : List ℕ) (rows : List Numbered) → size_of (with_place most s rows) ≤ size_of rows
+size-place most s rows = size_cond (not (eqb most 0) && leb most (count_by (λ (r : Numbered). bytes_eq r.message.subject s) rows)) (without_first s rows) rows rows (size-without_first s rows) (omega arith)

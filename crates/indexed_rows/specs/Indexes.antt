@@ -1,5 +1,6 @@
 -- The indexes of the messages that are kept.
-use Rattle.std.specs.Prelude.{◌≡◌, ℕ, ◌<◌, ◌≤◌, Bool, true, false, List, [], ◌∷◌, ◌++◌, map, filter, Option, Some, None, ⊤, slice_get}
+use Rattle.std.specs.Prelude.{◌≡◌, ℕ, ◌<◌, ◌≤◌, Bool, true, false, List, [], ◌∷◌, ◌++◌, map, filter, Option, Some, None, ⊤, slice_get, length, ◌==◌, ◌||◌, if◌then◌else◌}
+use Rattle.std.specs.List.{list_any}
 use Rattle.std.specs.Option.{option_map}
 use Rattle.std.specs.BTreeMap.{BTreeMap, get_by}
 use Rattle.std.specs.Cmp.Lexicographic.{slice_cmp}
@@ -7,9 +8,11 @@ use Rattle.std.specs.Global.{Vec}
 use Rattle.std.specs.Map.{keys_of}
 use Rattle.std.specs.Ordering.{nat_cmp}
 use Rattle.std.specs.Str.{bytes_eq}
+use Rattle.nats_text.specs.Matching.{matches}
 use Rattle.nats_text.specs.declared.message.Message.{Message}
+use Rattle.stream_fold.specs.declared.config.Config.{Config}
 use Rattle.stream_fold.specs.declared.entry.Numbered.{Numbered}
-use Rattle.stream_fold.specs.Histories.{either}
+use Rattle.stream_fold.specs.Histories.{either, are_within, is_expired}
 use Rattle.stream_fold.specs.RowLists.{EachRow, IsTotal, Rises, seqs}
 use Rattle.indexed_rows.specs.Entries.{Entries}
 use Rattle.indexed_rows.specs.declared.index.Index.{Index}
@@ -98,3 +101,16 @@ first_of_list (n ∷ ns) = Some n
 abbrev pub last_of_list : List ℕ → Option ℕ
 last_of_list [] = None
 last_of_list (n ∷ ns) = either (last_of_list ns) (Some n)
+
+-- one of the filters matches the subject, or there is none
+abbrev pub takes : List (List ℕ) → List ℕ → Bool
+takes filters subject = (length filters == 0) || list_any (λ pattern. matches pattern subject) filters
+
+-- the first row's number, where the rows are not within the limits
+abbrev pub excess : Config → List Numbered → Option ℕ
+excess c rows = if are_within c rows then None else seq_in (slice_get rows 0)
+
+-- the first row's number, where an expiry takes that row
+abbrev pub expired_front : ℕ → ℕ → List Numbered → Option ℕ
+expired_front max_age now [] = None
+expired_front max_age now (row ∷ rows) = if is_expired max_age now row then Some row.seq else None

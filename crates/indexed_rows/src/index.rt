@@ -1,12 +1,13 @@
-ghost use Rattle.std.specs.Prelude.{◌≡◌, ◌<◌, ◌+◌, ◌^◌, ◌++◌, ◌∷◌, [], ◌==◌, true, false, not, filter, length, count_by, slice_get, option_map, Some, OnOk, OnErr};
+ghost use Rattle.std.specs.Prelude.{◌≡◌, ◌<◌, ◌+◌, ◌^◌, ◌++◌, ◌∷◌, [], ◌==◌, true, not, ◌&&◌, nat_le, filter, count_by, slice_get, option_map, Some, OnOk, OnErr};
 ghost use Rattle.std.specs.Option.{option_copied};
-ghost use Rattle.std.specs.Str.{bytes_eq};
+ghost use Rattle.std.specs.List.{list_any};
+ghost use Rattle.nats_text.specs.Matching.{matches};
 ghost use Rattle.nats_text.specs.Sizes.{size};
 ghost use Rattle.stream_fold.specs.Counting.{pushed_out};
-ghost use Rattle.stream_fold.specs.Histories.{message_at, size_of};
-ghost use Rattle.stream_fold.specs.Publishing.{last_of, next_match, is_next};
-ghost use Rattle.stream_fold.specs.RowLists.{with_place, EachRow};
-ghost use Rattle.indexed_rows.specs.Indexes.{IsIndexed, IsInOrder, rows_of, ready_in, seq_in, is_of};
+ghost use Rattle.stream_fold.specs.Histories.{size_of};
+ghost use Rattle.stream_fold.specs.Publishing.{last_of, next_match};
+ghost use Rattle.stream_fold.specs.RowLists.{with_place, without_first, EachRow};
+ghost use Rattle.indexed_rows.specs.Indexes.{IsIndexed, IsInOrder, rows_of, ready_in, seq_in, is_of, takes};
 
 use crate::by_number::ByNumber;
 use crate::subjects::{
@@ -60,10 +61,21 @@ pub fn pushed_out<'a>(index: &'a Index, most: u64, subject: &[u8]) -> Option<&'a
     requires { IsIndexed index.now }
     ensures { option_copied result ≡ option_map (λ row. row.message) (pushed_out most subject.now (rows_of index.now.messages.items)) }
 {
-    if most == 0 || (count_of(index, subject) as u64) < most {
+    if !is_full_of(index, subject, most) {
         return None;
     }
-    index.messages.get(first_of(index, subject)?)
+    match first_of(index, subject) {
+        Some(seq) => index.messages.get(seq),
+        None => None,
+    }
+}
+
+/// Whether so many messages of a subject are kept. A limit of 0 is none.
+fn is_full_of(index: &Index, subject: &[u8], most: u64) -> bool
+    requires { IsIndexed index.now }
+    ensures { result ≡ (not (most == 0) && nat_le most (count_by (is_of subject.now) (rows_of index.now.messages.items))) }
+{
+    most != 0 && most <= count_of(index, subject) as u64
 }
 
 /// The least number at or after `from` of a subject that one of the filters matches. Without a filter it
@@ -71,12 +83,13 @@ pub fn pushed_out<'a>(index: &'a Index, most: u64, subject: &[u8]) -> Option<&'a
 pub fn next_match(index: &Index, from: u64, filters: &[Pattern]) -> Option<u64>
     ensures { result ≡ next_match from filters.now (rows_of index.now.messages.items) }
 {
+    let last = index.messages.last()?;
     let mut next = from;
     while let Some((seq, message)) = index.messages.next_from(next) {
         if is_taken(filters, &message.subject) {
             return Some(seq);
         }
-        if seq == u64::MAX {
+        if last <= seq {
             return None;
         }
         next = seq + 1;
@@ -84,8 +97,16 @@ pub fn next_match(index: &Index, from: u64, filters: &[Pattern]) -> Option<u64>
     None
 }
 
-fn is_taken(filters: &[Pattern], subject: &Subject) -> bool {
-    filters.is_empty() || filters.iter().any(|pattern| matches(pattern, subject))
+fn is_taken(filters: &[Pattern], subject: &Subject) -> bool
+    ensures { result ≡ takes filters.now subject.now }
+{
+    filters.is_empty() || any_matches(filters, subject)
+}
+
+fn any_matches(filters: &[Pattern], subject: &Subject) -> bool
+    ensures { result ≡ list_any (λ pattern. matches pattern subject.now) filters.now }
+{
+    filters.iter().any(|pattern| matches(pattern, subject))
 }
 
 /// Makes places for a message of the subject, and takes those away that were made for another subject
@@ -146,16 +167,24 @@ pub fn delete(index: &mut Index, seq: u64)
     unlist_number(&mut index.subjects, subject, seq, &index.coming);
 }
 
-/// Takes the first message of a subject away, where so many and one more stand.
+/// Takes the first message of a subject away, where so many stand. A limit of 0 is none.
 pub fn make_place(index: &mut Index, subject: &[u8], most: u64)
     requires { IsIndexed index.old }
     ensures indexed { IsIndexed index.new }
     ensures rows { rows_of index.new.messages.items ≡ with_place most subject.now (rows_of index.old.messages.items) }
     ensures ready { index.new.coming ≡ index.old.coming }
 {
-    if most == 0 || (count_of(index, subject) as u64) < most {
-        return;
+    if is_full_of(index, subject, most) {
+        drop_first(index, subject);
     }
+}
+
+fn drop_first(index: &mut Index, subject: &[u8])
+    requires { IsIndexed index.old }
+    ensures indexed { IsIndexed index.new }
+    ensures rows { rows_of index.new.messages.items ≡ without_first subject.now (rows_of index.old.messages.items) }
+    ensures ready { index.new.coming ≡ index.old.coming }
+{
     if let Some(seq) = first_of(index, subject) {
         delete(index, seq);
     }

@@ -1,7 +1,7 @@
 ghost use Rattle.std.specs.Prelude.{◌≡◌, length};
 ghost use Rattle.stream_fold.specs.Histories.{newest_of_each, newest_within};
 ghost use Rattle.stream_fold.specs.RowLists.{counts_within};
-ghost use Rattle.indexed_rows.specs.Indexes.{IsIndexed, rows_of};
+ghost use Rattle.indexed_rows.specs.Indexes.{IsIndexed, excess, rows_of};
 
 use crate::index::{Index, count_of, delete};
 use nats_text::Message;
@@ -13,12 +13,20 @@ pub fn drop_excess(index: &mut Index, config: &Config)
     ensures indexed { IsIndexed index.new }
     ensures rows { rows_of index.new.messages.items ≡ newest_within config.now (rows_of index.old.messages.items) }
 {
-    while !are_within(config, index.messages.len(), index.total) {
-        match index.messages.first() {
-            Some(seq) => delete(index, seq),
-            None => return,
-        }
+    while let Some(seq) = excess(index, config) {
+        delete(index, seq);
     }
+}
+
+/// The first number, where the messages are not within the limits.
+fn excess(index: &Index, config: &Config) -> Option<u64>
+    requires { IsIndexed index.now }
+    ensures { result ≡ excess config.now (rows_of index.now.messages.items) }
+{
+    if are_within(config, index.messages.len(), index.total) {
+        return None;
+    }
+    index.messages.first()
 }
 
 /// Whether so many messages of so many bytes are within the limits.

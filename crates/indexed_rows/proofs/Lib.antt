@@ -3,3 +3,4 @@ pub mod Changes
 pub mod Listed
 pub mod Places
 pub mod RowLemmas
+pub mod Walks

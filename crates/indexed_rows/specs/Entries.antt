@@ -36,3 +36,8 @@ module _ {V : Type 0} where
   abbrev pub entry_from : ℕ → List (ℕ × V) → Option (ℕ × V)
   entry_from number [] = None
   entry_from number (e ∷ es) = if nat_le number e.0 then Some e else entry_from number es
+
+  -- the first number from this one on
+  abbrev pub number_from : ℕ → List (ℕ × V) → Option ℕ
+  number_from number [] = None
+  number_from number (e ∷ es) = if nat_le number e.0 then Some e.0 else number_from number es

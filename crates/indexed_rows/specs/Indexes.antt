@@ -1,5 +1,5 @@
 -- The indexes of the messages that are kept.
-use Rattle.std.specs.Prelude.{◌≡◌, ℕ, ◌<◌, ◌≤◌, Bool, true, false, List, [], ◌∷◌, ◌++◌, map, filter, Option, Some, None, ⊤, slice_get, length, ◌==◌, ◌||◌, if◌then◌else◌}
+use Rattle.std.specs.Prelude.{◌≡◌, ℕ, ◌<◌, ◌≤◌, Bool, true, false, List, [], ◌∷◌, ◌++◌, map, filter, Option, Some, None, ⊤, slice_get, length, ◌==◌, ◌||◌, ◌&&◌, ◌+◌, not, nat_le, if◌then◌else◌}
 use Rattle.std.specs.List.{list_any}
 use Rattle.std.specs.Option.{option_map}
 use Rattle.std.specs.BTreeMap.{BTreeMap, get_by}
@@ -114,3 +114,13 @@ excess c rows = if are_within c rows then None else seq_in (slice_get rows 0)
 abbrev pub expired_front : ℕ → ℕ → List Numbered → Option ℕ
 expired_front max_age now [] = None
 expired_front max_age now (row ∷ rows) = if is_expired max_age now row then Some row.seq else None
+
+-- there is a message, and the pattern matches its subject
+abbrev pub matches_in : List ℕ → Option Message → Bool
+matches_in pattern None = false
+matches_in pattern (Some m) = matches pattern m.subject
+
+-- there is a message, and it is as old as the limit on age says
+abbrev pub expired_in : ℕ → ℕ → Option Message → Bool
+expired_in max_age now None = false
+expired_in max_age now (Some m) = not (max_age == 0) && nat_le (m.time + max_age) now

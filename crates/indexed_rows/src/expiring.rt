@@ -1,21 +1,20 @@
-ghost use Rattle.std.specs.Prelude.{◌≡◌, ◌+◌, filter, not, nat_le};
+ghost use Rattle.std.specs.Prelude.{◌≡◌, ◌+◌, ◌==◌, ◌&&◌, true, filter, not, nat_le};
+ghost use Rattle.std.specs.Option.{option_copied};
 ghost use Rattle.stream_fold.specs.Histories.{is_expired};
-ghost use Rattle.indexed_rows.specs.Indexes.{IsIndexed, rows_of};
+ghost use Rattle.indexed_rows.specs.Indexes.{IsIndexed, TimesRise, expired_front, expired_in, rows_of};
 
-use crate::index::{Index, delete};
-use crate::limiting::number_from;
+use crate::index::{Index, delete, number_from};
 use nats_text::Message;
 
-/// Takes the messages away that are as old as this, which is more than 0. Where no message is older than
-/// one before it, those that go are the first ones; else each is looked at.
+/// Takes the messages away that are as old as this. Where no message is older than one before it, those
+/// that go are the first ones; else each is looked at. The times of a stream's own messages rise, and so
+/// do those of a mirror whose origin's do; so an index by time would cost each message memory for nothing.
 pub fn expire(index: &mut Index, max_age: u64, now: u64)
     requires { IsIndexed index.old }
     ensures indexed { IsIndexed index.new }
     ensures rows { rows_of index.new.messages.items ≡ filter (λ row. not (is_expired max_age now row)) (rows_of index.old.messages.items) }
+    ensures ready { index.new.coming ≡ index.old.coming }
 {
-    if max_age == 0 {
-        return;
-    }
     if index.in_order {
         expire_first(index, max_age, now);
     } else {
@@ -24,38 +23,65 @@ pub fn expire(index: &mut Index, max_age: u64, now: u64)
 }
 
 fn expire_first(index: &mut Index, max_age: u64, now: u64)
-    requires { IsIndexed index.old }
+    requires indexed { IsIndexed index.old }
+    requires order { TimesRise (rows_of index.old.messages.items) }
     ensures indexed { IsIndexed index.new }
+    ensures rows { rows_of index.new.messages.items ≡ filter (λ row. not (is_expired max_age now row)) (rows_of index.old.messages.items) }
+    ensures ready { index.new.coming ≡ index.old.coming }
 {
-    while let Some(seq) = index.messages.first() {
-        if !has_expired(index.messages.get(seq), max_age, now) {
-            return;
-        }
+    while let Some(seq) = first_expired(index, max_age, now) {
         delete(index, seq);
+    }
+}
+
+/// The first number, where that message has expired.
+fn first_expired(index: &Index, max_age: u64, now: u64) -> Option<u64>
+    ensures { result ≡ expired_front max_age now (rows_of index.now.messages.items) }
+{
+    let Some((seq, message)) = index.messages.next_from(0) else {
+        return None;
+    };
+    if is_expired(message, max_age, now) {
+        Some(seq)
+    } else {
+        None
     }
 }
 
 fn expire_each(index: &mut Index, max_age: u64, now: u64)
     requires { IsIndexed index.old }
     ensures indexed { IsIndexed index.new }
+    ensures rows { rows_of index.new.messages.items ≡ filter (λ row. not (is_expired max_age now row)) (rows_of index.old.messages.items) }
+    ensures ready { index.new.coming ≡ index.old.coming }
 {
+    let Some(last) = index.messages.last() else {
+        return;
+    };
     let mut next = 0;
     while let Some(seq) = number_from(index, next) {
         if has_expired(index.messages.get(seq), max_age, now) {
             delete(index, seq);
         }
-        if seq == u64::MAX {
+        if last <= seq {
             return;
         }
         next = seq + 1;
     }
 }
 
-fn has_expired(message: Option<&Message>, max_age: u64, now: u64) -> bool {
+fn has_expired(message: Option<&Message>, max_age: u64, now: u64) -> bool
+    ensures { result ≡ expired_in max_age now (option_copied message.entry) }
+{
     match message {
-        Some(message) => is_older(message.time, max_age, now),
+        Some(message) => is_expired(message, max_age, now),
         None => false,
     }
+}
+
+fn is_expired(message: &Message, max_age: u64, now: u64) -> bool
+    ensures { result ≡ (not (max_age == 0) && nat_le (message.now.time + max_age) now) }
+{
+    max_age != 0 && is_older(message.time, max_age, now)
 }
 
 /// Whether so much time has passed since the moment.

@@ -7,6 +7,7 @@ ghost use Rattle.stream_fold.specs.Counting.{pushed_out};
 ghost use Rattle.stream_fold.specs.Histories.{size_of};
 ghost use Rattle.stream_fold.specs.Publishing.{last_of, next_match};
 ghost use Rattle.stream_fold.specs.RowLists.{with_place, without_first, EachRow};
+ghost use Rattle.indexed_rows.specs.Entries.{number_from};
 ghost use Rattle.indexed_rows.specs.Indexes.{IsIndexed, IsInOrder, rows_of, ready_in, seq_in, is_of, takes};
 
 use crate::by_number::ByNumber;
@@ -81,9 +82,12 @@ fn is_full_of(index: &Index, subject: &[u8], most: u64) -> bool
 /// The least number at or after `from` of a subject that one of the filters matches. Without a filter it
 /// is the first one that is looked at.
 pub fn next_match(index: &Index, from: u64, filters: &[Pattern]) -> Option<u64>
+    requires { IsIndexed index.now }
     ensures { result ≡ next_match from filters.now (rows_of index.now.messages.items) }
 {
-    let last = index.messages.last()?;
+    let Some(last) = index.messages.last() else {
+        return None;
+    };
     let mut next = from;
     while let Some((seq, message)) = index.messages.next_from(next) {
         if is_taken(filters, &message.subject) {
@@ -107,6 +111,16 @@ fn any_matches(filters: &[Pattern], subject: &Subject) -> bool
     ensures { result ≡ list_any (λ pattern. matches pattern subject.now) filters.now }
 {
     filters.iter().any(|pattern| matches(pattern, subject))
+}
+
+/// The first number from this one on.
+pub fn number_from(index: &Index, from: u64) -> Option<u64>
+    ensures { result ≡ number_from from index.now.messages.items }
+{
+    match index.messages.next_from(from) {
+        Some((seq, _)) => Some(seq),
+        None => None,
+    }
 }
 
 /// Makes places for a message of the subject, and takes those away that were made for another subject

@@ -3,7 +3,7 @@ ghost use Rattle.stream_fold.specs.Histories.{newest_of_each, newest_within};
 ghost use Rattle.stream_fold.specs.RowLists.{counts_within};
 ghost use Rattle.indexed_rows.specs.Indexes.{IsIndexed, excess, rows_of};
 
-use crate::index::{Index, count_of, delete};
+use crate::index::{Index, count_of, delete, number_from};
 use nats_text::Message;
 use stream_fold::Config;
 
@@ -12,6 +12,7 @@ pub fn drop_excess(index: &mut Index, config: &Config)
     requires { IsIndexed index.old }
     ensures indexed { IsIndexed index.new }
     ensures rows { rows_of index.new.messages.items ≡ newest_within config.now (rows_of index.old.messages.items) }
+    ensures ready { index.new.coming ≡ index.old.coming }
 {
     while let Some(seq) = excess(index, config) {
         delete(index, seq);
@@ -43,23 +44,21 @@ pub fn keep_newest_of_each(index: &mut Index, most: u64)
     requires { IsIndexed index.old }
     ensures indexed { IsIndexed index.new }
     ensures rows { rows_of index.new.messages.items ≡ newest_of_each most (rows_of index.old.messages.items) }
+    ensures ready { index.new.coming ≡ index.old.coming }
 {
+    let Some(last) = index.messages.last() else {
+        return;
+    };
     let mut next = 0;
     while let Some(seq) = number_from(index, next) {
         if is_one_too_many(index, seq, most) {
             delete(index, seq);
         }
-        if seq == u64::MAX {
+        if last <= seq {
             return;
         }
         next = seq + 1;
     }
-}
-
-/// The first number from this one on.
-pub fn number_from(index: &Index, from: u64) -> Option<u64> {
-    let (seq, _) = index.messages.next_from(from)?;
-    Some(seq)
 }
 
 fn is_one_too_many(index: &Index, seq: u64, most: u64) -> bool

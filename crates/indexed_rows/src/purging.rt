@@ -1,46 +1,18 @@
-ghost use Rattle.std.specs.Prelude.{◌≡◌, filter, not};
+ghost use Rattle.std.specs.Prelude.{◌≡◌, filter, is_some, not, option_map};
+ghost use Rattle.std.specs.Option.{option_copied};
+ghost use Rattle.nats_text.specs.Matching.{matches};
 ghost use Rattle.stream_fold.specs.Histories.{is_purged};
-ghost use Rattle.indexed_rows.specs.Indexes.{IsIndexed, rows_of};
+ghost use Rattle.indexed_rows.specs.Indexes.{IsIndexed, matches_in, rows_of};
 
-use crate::index::{Index, delete, first_of};
-use crate::limiting::number_from;
+use crate::index::{Index, delete, number_from};
 use nats_text::{Message, Pattern, matches};
 
-/// Takes the messages away that match and whose numbers are below `below`. A pattern without wildcards
-/// is the subject that it matches.
+/// Takes the messages away that match and whose numbers are below `below`, in one walk of those.
 pub fn purge(index: &mut Index, pattern: &Pattern, below: u64)
     requires { IsIndexed index.old }
     ensures indexed { IsIndexed index.new }
     ensures rows { rows_of index.new.messages.items ≡ filter (λ row. not (is_purged pattern.now below row)) (rows_of index.old.messages.items) }
-{
-    if has_wildcard(pattern.bytes()) {
-        purge_each(index, pattern, below);
-    } else {
-        purge_subject(index, pattern, below);
-    }
-}
-
-/// Whether a byte is `*` or `>`. A pattern without them matches the subject of its own text alone.
-fn has_wildcard(pattern: &[u8]) -> bool {
-    pattern.contains(&b'*') || pattern.contains(&b'>')
-}
-
-fn purge_subject(index: &mut Index, subject: &Pattern, below: u64)
-    requires { IsIndexed index.old }
-    ensures indexed { IsIndexed index.new }
-{
-    while let Some(seq) = first_of(index, subject.bytes()) {
-        if below <= seq {
-            return;
-        }
-        delete(index, seq);
-    }
-}
-
-fn purge_each(index: &mut Index, pattern: &Pattern, below: u64)
-    requires { IsIndexed index.old }
-    ensures indexed { IsIndexed index.new }
-    ensures rows { rows_of index.new.messages.items ≡ filter (λ row. not (is_purged pattern.now below row)) (rows_of index.old.messages.items) }
+    ensures ready { index.new.coming ≡ index.old.coming }
 {
     let mut next = 0;
     while let Some(seq) = number_from(index, next) {
@@ -54,7 +26,9 @@ fn purge_each(index: &mut Index, pattern: &Pattern, below: u64)
     }
 }
 
-fn has_match(message: Option<&Message>, pattern: &Pattern) -> bool {
+fn has_match(message: Option<&Message>, pattern: &Pattern) -> bool
+    ensures { result ≡ matches_in pattern.now (option_copied message.entry) }
+{
     match message {
         Some(message) => matches(pattern, &message.subject),
         None => false,

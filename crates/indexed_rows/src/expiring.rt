@@ -1,6 +1,7 @@
-ghost use Rattle.std.specs.Prelude.{◌≡◌, ◌+◌, ◌==◌, ◌&&◌, true, filter, not, nat_le};
+ghost use Rattle.std.specs.Prelude.{◌≡◌, ◌⊎◌, ◌+◌, ◌==◌, ◌&&◌, true, filter, not, nat_le};
 ghost use Rattle.std.specs.Option.{option_copied};
 ghost use Rattle.stream_fold.specs.Histories.{is_expired};
+ghost use Rattle.stream_fold.specs.RowLists.{EachRow};
 ghost use Rattle.indexed_rows.specs.Indexes.{IsIndexed, TimesRise, expired_front, expired_in, rows_of};
 
 use crate::index::{Index, delete, number_from};
@@ -59,13 +60,25 @@ fn expire_each(index: &mut Index, max_age: u64, now: u64)
     };
     let mut next = 0;
     while let Some(seq) = number_from(index, next) {
-        if has_expired(index.messages.get(seq), max_age, now) {
-            delete(index, seq);
-        }
+        expire_at(index, max_age, now, seq);
         if last <= seq {
             return;
         }
         next = seq + 1;
+    }
+}
+
+/// Takes the message of a number away, where it has expired.
+fn expire_at(index: &mut Index, max_age: u64, now: u64, seq: u64)
+    requires { IsIndexed index.old }
+    ensures indexed { IsIndexed index.new }
+    ensures stay { filter (λ row. not (is_expired max_age now row)) (rows_of index.new.messages.items) ≡ filter (λ row. not (is_expired max_age now row)) (rows_of index.old.messages.items) }
+    ensures passes { EachRow (λ row. row.seq ≡ seq → not (is_expired max_age now row) ≡ true) (rows_of index.new.messages.items) }
+    ensures fewer { (rows_of index.new.messages.items ≡ rows_of index.old.messages.items) ⊎ (rows_of index.new.messages.items ≡ filter (λ row. not (row.seq == seq)) (rows_of index.old.messages.items)) }
+    ensures ready { index.new.coming ≡ index.old.coming }
+{
+    if has_expired(index.messages.get(seq), max_age, now) {
+        delete(index, seq);
     }
 }
 

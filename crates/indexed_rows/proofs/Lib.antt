@@ -1,5 +1,6 @@
 pub mod Apart
 pub mod Changes
+pub mod Keeping
 pub mod Listed
 pub mod Places
 pub mod RowLemmas

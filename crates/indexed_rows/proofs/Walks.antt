@@ -236,11 +236,11 @@ filter_all : (p : Numbered → Bool) (rows : List Numbered) → EachRow (λ r. p
 filter_all p [] h = refl
 filter_all p (row ∷ rows) h = rw h.0 (ap (λ rs. row ∷ rs) (filter_all p rows h.1))
 
-pass_each : (p : Numbered → Bool) (n : ℕ) (rows : List Numbered) → PassBelow p n rows → EachRow (λ r. n ≤ r.seq → p r ≡ true) rows → EachRow (λ r. p r ≡ true) rows
+pub pass_each : (p : Numbered → Bool) (n : ℕ) (rows : List Numbered) → PassBelow p n rows → EachRow (λ r. n ≤ r.seq → p r ≡ true) rows → EachRow (λ r. p r ≡ true) rows
 pass_each p n [] pass rest = tt
 pass_each p n (row ∷ rows) pass rest = (elim (cases_lt row.seq n) [ | inl lt ↦ pass.0 lt | inr le ↦ rest.0 le ], pass_each p n rows pass.1 rest.1)
 
-none_past : (P : Numbered → Type 0) (k : ℕ) (items : List (ℕ × Message)) → number_from k items ≡ None → EachRow (λ r. k ≤ r.seq → P r) (rows_of items)
+pub none_past : (P : Numbered → Type 0) (k : ℕ) (items : List (ℕ × Message)) → number_from k items ≡ None → EachRow (λ r. k ≤ r.seq → P r) (rows_of items)
 none_past P k [] h = tt
 none_past P k (x ∷ xs) h = elim (cases_Bool (leb k x.0)) [
   | inl here ↦ absurd (let q = rw here at h in cc)
@@ -286,7 +286,7 @@ pub pass_none : (p : Numbered → Bool) (rows : List Numbered) → PassBelow p 0
 pass_none p [] = tt
 pass_none p (row ∷ rows) = ((λ lt. absurd (omega (arith, lt))), pass_none p rows)
 
-none_left : (P : Numbered → Type 0) (n : ℕ) (rows : List Numbered) → EachRow (λ r. r.seq ≡ n → P r) (without n rows)
+pub none_left : (P : Numbered → Type 0) (n : ℕ) (rows : List Numbered) → EachRow (λ r. r.seq ≡ n → P r) (without n rows)
 none_left P n [] = tt
 none_left P n (row ∷ rows) = elim (cases_eq row.seq n) [
   | inl same ↦ rw (eq-eqb row.seq n same) (none_left P n rows)

@@ -1,5 +1,5 @@
 -- The indexes of the messages that are kept.
-use Rattle.std.specs.Prelude.{◌≡◌, ℕ, ◌<◌, ◌≤◌, Bool, true, false, List, [], ◌∷◌, ◌++◌, map, filter, Option, Some, None, ⊤, slice_get, length, ◌==◌, ◌||◌, ◌&&◌, ◌+◌, not, nat_le, if◌then◌else◌}
+use Rattle.std.specs.Prelude.{◌≡◌, ℕ, ◌<◌, ◌≤◌, Bool, true, false, List, [], ◌∷◌, ◌++◌, map, filter, Option, Some, None, ⊤, slice_get, length, ◌==◌, ◌||◌, ◌&&◌, ◌+◌, not, nat_le, nat_lt, count_by, if◌then◌else◌}
 use Rattle.std.specs.List.{list_any}
 use Rattle.std.specs.Option.{option_map}
 use Rattle.std.specs.BTreeMap.{BTreeMap, get_by}
@@ -12,7 +12,7 @@ use Rattle.nats_text.specs.Matching.{matches}
 use Rattle.nats_text.specs.declared.message.Message.{Message}
 use Rattle.stream_fold.specs.declared.config.Config.{Config}
 use Rattle.stream_fold.specs.declared.entry.Numbered.{Numbered}
-use Rattle.stream_fold.specs.Histories.{either, are_within, is_expired}
+use Rattle.stream_fold.specs.Histories.{either, are_within, has_subject_of, is_expired}
 use Rattle.stream_fold.specs.RowLists.{EachRow, IsTotal, Rises, seqs}
 use Rattle.indexed_rows.specs.Entries.{Entries}
 use Rattle.indexed_rows.specs.declared.index.Index.{Index}
@@ -124,3 +124,12 @@ matches_in pattern (Some m) = matches pattern m.subject
 abbrev pub expired_in : ℕ → ℕ → Option Message → Bool
 expired_in max_age now None = false
 expired_in max_age now (Some m) = not (max_age == 0) && nat_le (m.time + max_age) now
+
+-- at most so many rows have the subject of this one
+abbrev pub has_at_most : ℕ → List Numbered → Numbered → Bool
+has_at_most most rows row = nat_le (count_by (has_subject_of row) rows) most
+
+-- there is a message, and more rows than so many have its subject
+abbrev pub too_many : ℕ → List Numbered → Option Message → Bool
+too_many most rows None = false
+too_many most rows (Some m) = nat_lt most (count_by (is_of m.subject) rows)

@@ -1,7 +1,8 @@
-ghost use Rattle.std.specs.Prelude.{◌≡◌, length};
+ghost use Rattle.std.specs.Prelude.{◌≡◌, ◌⊎◌, ◌<◌, ◌==◌, true, not, filter};
+ghost use Rattle.std.specs.Option.{option_copied};
 ghost use Rattle.stream_fold.specs.Histories.{newest_of_each, newest_within};
-ghost use Rattle.stream_fold.specs.RowLists.{counts_within};
-ghost use Rattle.indexed_rows.specs.Indexes.{IsIndexed, excess, rows_of};
+ghost use Rattle.stream_fold.specs.RowLists.{counts_within, EachRow};
+ghost use Rattle.indexed_rows.specs.Indexes.{IsIndexed, excess, has_at_most, rows_of, too_many};
 
 use crate::index::{Index, count_of, delete, number_from};
 use nats_text::Message;
@@ -51,9 +52,7 @@ pub fn keep_newest_of_each(index: &mut Index, most: u64)
     };
     let mut next = 0;
     while let Some(seq) = number_from(index, next) {
-        if is_one_too_many(index, seq, most) {
-            delete(index, seq);
-        }
+        keep_at(index, seq, most);
         if last <= seq {
             return;
         }
@@ -61,17 +60,29 @@ pub fn keep_newest_of_each(index: &mut Index, most: u64)
     }
 }
 
-fn is_one_too_many(index: &Index, seq: u64, most: u64) -> bool
-    requires { IsIndexed index.now }
+/// Takes the message of a number away, where its subject has more than so many, and none of a lower
+/// number has: so it is the first of its subject.
+fn keep_at(index: &mut Index, seq: u64, most: u64)
+    requires indexed { IsIndexed index.old }
+    requires earlier { EachRow (λ row. row.seq < seq → has_at_most most (rows_of index.old.messages.items) row ≡ true) (rows_of index.old.messages.items) }
+    ensures indexed { IsIndexed index.new }
+    ensures stay { newest_of_each most (rows_of index.new.messages.items) ≡ newest_of_each most (rows_of index.old.messages.items) }
+    ensures passes { EachRow (λ row. row.seq ≡ seq → has_at_most most (rows_of index.new.messages.items) row ≡ true) (rows_of index.new.messages.items) }
+    ensures fewer { (rows_of index.new.messages.items ≡ rows_of index.old.messages.items) ⊎ (rows_of index.new.messages.items ≡ filter (λ row. not (row.seq == seq)) (rows_of index.old.messages.items)) }
+    ensures ready { index.new.coming ≡ index.old.coming }
 {
-    match index.messages.get(seq) {
-        Some(message) => has_more(index, message, most),
-        None => false,
+    if has_too_many(index, index.messages.get(seq), most) {
+        delete(index, seq);
     }
 }
 
-fn has_more(index: &Index, message: &Message, most: u64) -> bool
+/// Whether there is a message, and more than so many have its subject.
+fn has_too_many(index: &Index, message: Option<&Message>, most: u64) -> bool
     requires { IsIndexed index.now }
+    ensures { result ≡ too_many most (rows_of index.now.messages.items) (option_copied message.entry) }
 {
-    most < count_of(index, message.subject.bytes()) as u64
+    match message {
+        Some(message) => most < count_of(index, message.subject.bytes()) as u64,
+        None => false,
+    }
 }

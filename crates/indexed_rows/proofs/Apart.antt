@@ -1,10 +1,10 @@
 -- What is seen of an ordered map and of the newest value, which stands apart from it.
-use Rattle.std.proofs.Common.{◌≡◌, ℕ, ◌<◌, ◌≤◌, ◌-◌, suc, Bool, true, false, cond, not, eqb, leb, List, [], ◌∷◌, ◌++◌, Option, Some, None, refl, sym, ap, subst, ◌∙◌, arith, length}
+use Rattle.std.proofs.Common.{◌≡◌, ℕ, ◌-◌, Bool, true, false, cond, not, eqb, leb, List, [], ◌∷◌, ◌++◌, Option, Some, None, refl, sym, ap, subst, ◌∙◌, arith, length}
 use Rattle.std.specs.Prelude.{filter, slice_get, is_none, ◌&&◌}
 use Rattle.std.specs.Ordering.{nat_cmp, is_le}
 use Rattle.std.specs.Map.{keys_of, lookup, remove_entry}
 use Rattle.std.specs.BTreeMap.{is_at, insert_entry}
-use Rattle.std.proofs.lemmas.Bool.{ne_eqb, le-leb, lt-leb}
+use Rattle.std.proofs.lemmas.Bool.{ne_eqb}
 use Rattle.stream_fold.specs.RowLists.{Rises}
 use Rattle.indexed_rows.specs.Entries.{Entries, value_at, last_number, entry_from, with_newest}
 use Rattle.indexed_rows.proofs.Listed.{le_leb, rises_front, rises_filter, value_at-lookup, value_at-newest, value_at-older, last-newest, last-at, from-filter, from-older, from-newest, without-entry, without-newest, without-older, inserted-last}

@@ -1,9 +1,8 @@
 -- What holds of indexes whose rows change.
-use Rattle.std.proofs.Common.{◌≡◌, ℕ, Bool, true, false, cond, if◌then◌else◌, not, eqb, List, [], ◌∷◌, Option, Some, None, inl, inr, refl, sym, ap, ◌∙◌}
+use Rattle.std.proofs.Common.{◌≡◌, ℕ, Bool, true, cond, if◌then◌else◌, not, eqb, List, [], ◌∷◌, Option, Some, None, inl, inr, refl, sym, ap, ◌∙◌}
 use Rattle.std.specs.Prelude.{filter}
 use Rattle.std.specs.Str.{bytes_eq}
 use Rattle.std.proofs.lemmas.Bool.{cases_Bool}
-use Rattle.nats_text.specs.declared.message.Message.{Message}
 use Rattle.indexed_rows.specs.Entries.{value_at}
 use Rattle.indexed_rows.specs.Indexes.{Subjects, IsReady}
 

@@ -1,10 +1,10 @@
 -- The newest rows of each subject, found in one walk.
-use Rattle.std.proofs.Common.{◌≡◌, ◌≢◌, ℕ, suc, ◌<◌, ◌≤◌, ◌+◌, Bool, true, false, cond, not, eqb, leb, ltb, List, [], ◌∷◌, Option, Some, None, inl, inr, ◌⊎◌, refl, sym, ap, subst, ◌∙◌, arith, length}
+use Rattle.std.proofs.Common.{◌≡◌, ◌≢◌, ℕ, suc, ◌<◌, ◌≤◌, ◌+◌, Bool, true, false, cond, not, eqb, leb, List, [], ◌∷◌, Option, Some, None, inl, inr, ◌⊎◌, refl, sym, ap, subst, ◌∙◌, arith, length}
 use Rattle.std.specs.Prelude.{filter, count_by}
 use Rattle.std.specs.Map.{keys_of}
 use Rattle.std.specs.Cmp.Lexicographic.{nat_list_eq_equiv}
 use Rattle.std.specs.Str.{bytes_eq}
-use Rattle.std.proofs.lemmas.Bool.{cases_Bool, cases_eq, eq-eqb, ne_eqb, le-leb, lt-leb, leb-true, ltb-true, ltb-false, false_from_ne_true}
+use Rattle.std.proofs.lemmas.Bool.{cases_eq, eq-eqb, ne_eqb, le-leb, lt-leb, leb-true, ltb-true, ltb-false, false_from_ne_true}
 use Rattle.std.proofs.lemmas.List.Sums.{sum_by-cons, length-filter}
 use Rattle.std.proofs.lemmas.Option.{same_Some}
 use Rattle.std.proofs.lemmas.Slice.Eq.{bytes_eq-Decides}
@@ -16,7 +16,7 @@ use Rattle.stream_fold.proofs.KeptRows.{EachRow-weaker, each_from_none}
 use Rattle.indexed_rows.specs.Entries.{number_from, value_at}
 use Rattle.indexed_rows.specs.Indexes.{rows_of, is_of, has_at_most, too_many}
 use Rattle.indexed_rows.proofs.RowLemmas.{only_at, message_at-items}
-use Rattle.indexed_rows.proofs.Walks.{PassBelow, without, without_front, same_kept, each_left, pass_to, pass_on, pass_each, none_past, none_left}
+use Rattle.indexed_rows.proofs.Walks.{PassBelow, without, without_front, same_kept, each_left, pass_to, pass_on, pass_each, none_past}
 
 count_cons : (q : Numbered → Bool) (row : Numbered) (rows : List Numbered) → count_by q (row ∷ rows) ≡ cond (q row) 1 0 + count_by q rows
 count_cons q row rows = sum_by-cons (λ (x : Numbered). cond (q x) 1 0) row rows
@@ -36,9 +36,9 @@ fall_left : (most n : ℕ) (old new : List Numbered) → (new ≡ old) ⊎ (new 
 fall_left most n old new left r h = elim left [
   | inl all ↦ subst (λ (rs : List Numbered). has_at_most most rs r ≡ true) (sym all) h
   | inr fewer ↦ subst (λ (rs : List Numbered). has_at_most most rs r ≡ true) (sym fewer)
-    (let less = count_less (has_subject_of r) (λ row. not (eqb row.seq n)) old in
-    let le = leb-true (count_by (has_subject_of r) old) most h in
-    le-leb (count_by (has_subject_of r) (without n old)) most (omega (arith, less, le)))
+      (let less = count_less (has_subject_of r) (λ row. not (eqb row.seq n)) old in
+      let le = leb-true (count_by (has_subject_of r) old) most h in
+      le-leb (count_by (has_subject_of r) (without n old)) most (omega (arith, less, le)))
 ]
 
 pub keep_walked : (most k n : ℕ) (items items' : List (ℕ × Message)) → Rises 0 (keys_of items) → number_from k items ≡ Some n → PassBelow (has_at_most most (rows_of items)) k (rows_of items) → (rows_of items' ≡ rows_of items) ⊎ (rows_of items' ≡ without n (rows_of items)) → EachRow (λ r. r.seq ≡ n → has_at_most most (rows_of items') r ≡ true) (rows_of items') → PassBelow (has_at_most most (rows_of items')) (n + 1) (rows_of items')
@@ -78,21 +78,21 @@ first_goes : (most n low : ℕ) (rows : List Numbered) (m : Message) → Rises l
 first_goes most n low [] m r at before more = absurd (cc)
 first_goes most n low (row ∷ rows) m r at before more = elim (cases_eq row.seq n) [
   | inl same ↦
-    (let is : row.message ≡ m = same_Some row.message m (rw (eq-eqb row.seq n same) at at) in
-    let left : without n (row ∷ rows) ≡ rows = subst (λ (k : ℕ). without k (row ∷ rows) ≡ rows) same (without_front low row rows r) in
-    let mine : count_by (is_of m.subject) (row ∷ rows) ≡ 1 + count_by (is_of m.subject) rows = count_cons (is_of m.subject) row rows ∙ ap (λ (b : Bool). cond b 1 0 + count_by (is_of m.subject) rows) (ap (λ (x : Message). bytes_eq x.subject m.subject) is ∙ (bytes_eq-Decides m.subject m.subject).1 refl) in
-    let many : leb most (count_by (has_subject_of row) rows) ≡ true = ap (λ (x : Message). leb most (count_by (is_of x.subject) rows)) is ∙ le-leb most (count_by (is_of m.subject) rows) (omega (arith, mine, more)) in
-    ap (λ (rs : List Numbered). newest_of_each most rs) left ∙ rw many refl)
+      (let is : row.message ≡ m = same_Some row.message m (rw (eq-eqb row.seq n same) at at) in
+      let left : without n (row ∷ rows) ≡ rows = subst (λ (k : ℕ). without k (row ∷ rows) ≡ rows) same (without_front low row rows r) in
+      let mine : count_by (is_of m.subject) (row ∷ rows) ≡ 1 + count_by (is_of m.subject) rows = count_cons (is_of m.subject) row rows ∙ ap (λ (b : Bool). cond b 1 0 + count_by (is_of m.subject) rows) (ap (λ (x : Message). bytes_eq x.subject m.subject) is ∙ (bytes_eq-Decides m.subject m.subject).1 refl) in
+      let many : leb most (count_by (has_subject_of row) rows) ≡ true = ap (λ (x : Message). leb most (count_by (is_of x.subject) rows)) is ∙ le-leb most (count_by (is_of m.subject) rows) (omega (arith, mine, more)) in
+      ap (λ (rs : List Numbered). newest_of_each most rs) left ∙ rw many refl)
   | inr other ↦
-    (let at' : message_at n rows ≡ Some m = rw (ne_eqb row.seq n other) at at in
-    let low' = message_low (suc row.seq) n rows m r.1 at' in
-    let apart : is_of m.subject row ≡ false = before.0 (omega (arith, low')) in
-    let less : count_by (is_of m.subject) (row ∷ rows) ≡ 0 + count_by (is_of m.subject) rows = count_cons (is_of m.subject) row rows ∙ ap (λ (b : Bool). cond b 1 0 + count_by (is_of m.subject) rows) apart in
-    let ih = first_goes most n (suc row.seq) rows m r.1 at' before.1 (omega (arith, less, more)) in
-    let counts : count_by (has_subject_of row) (without n rows) ≡ count_by (has_subject_of row) rows = same_count (has_subject_of row) n rows (EachRow-weaker (λ x. x.seq ≡ n → x.message ≡ m) (λ x. x.seq ≡ n → has_subject_of row x ≡ false) (λ x is e. ap (λ (y : Message). bytes_eq y.subject row.message.subject) (is e) ∙ (nat_list_eq_equiv.symm m.subject row.message.subject ∙ apart)) rows (only_at n (suc row.seq) rows m r.1 at')) in
-    rw (ne_eqb row.seq n other)
-    (ap (λ (k : ℕ). cond (leb most k) (newest_of_each most (without n rows)) (row ∷ newest_of_each most (without n rows))) counts
-    ∙ ap (λ (rs : List Numbered). cond (leb most (count_by (has_subject_of row) rows)) rs (row ∷ rs)) ih))
+      (let at' : message_at n rows ≡ Some m = rw (ne_eqb row.seq n other) at at in
+      let low' = message_low (suc row.seq) n rows m r.1 at' in
+      let apart : is_of m.subject row ≡ false = before.0 (omega (arith, low')) in
+      let less : count_by (is_of m.subject) (row ∷ rows) ≡ 0 + count_by (is_of m.subject) rows = count_cons (is_of m.subject) row rows ∙ ap (λ (b : Bool). cond b 1 0 + count_by (is_of m.subject) rows) apart in
+      let ih = first_goes most n (suc row.seq) rows m r.1 at' before.1 (omega (arith, less, more)) in
+      let counts : count_by (has_subject_of row) (without n rows) ≡ count_by (has_subject_of row) rows = same_count (has_subject_of row) n rows (EachRow-weaker (λ x. x.seq ≡ n → x.message ≡ m) (λ x. x.seq ≡ n → has_subject_of row x ≡ false) (λ x is e. ap (λ (y : Message). bytes_eq y.subject row.message.subject) (is e) ∙ (nat_list_eq_equiv.symm m.subject row.message.subject ∙ apart)) rows (only_at n (suc row.seq) rows m r.1 at')) in
+      rw (ne_eqb row.seq n other)
+      (ap (λ (k : ℕ). cond (leb most k) (newest_of_each most (without n rows)) (row ∷ newest_of_each most (without n rows))) counts
+      ∙ ap (λ (rs : List Numbered). cond (leb most (count_by (has_subject_of row) rows)) rs (row ∷ rs)) ih))
 ]
 
 goes_at : (most n : ℕ) (rows : List Numbered) (o : Option Message) → Rises 0 (seqs rows) → PassBelow (has_at_most most rows) n rows → message_at n rows ≡ o → too_many most rows o ≡ true → newest_of_each most (without n rows) ≡ newest_of_each most rows
@@ -101,10 +101,10 @@ goes_at most n rows (Some m) r pass at h =
     let more = ltb-true most (count_by (is_of m.subject) rows) h in
     first_goes most n 0 rows m r at
     (EachRow-weaker (λ x. x.seq < n → has_at_most most rows x ≡ true) (λ x. x.seq < n → is_of m.subject x ≡ false) (λ x within lt. false_from_ne_true (is_of m.subject x) (λ mine.
-      let is : x.message.subject ≡ m.subject = (bytes_eq-Decides x.message.subject m.subject).0 mine in
-      let le = leb-true (count_by (is_of x.message.subject) rows) most (within lt) in
-      let same : count_by (is_of x.message.subject) rows ≡ count_by (is_of m.subject) rows = ap (λ (s : List ℕ). count_by (is_of s) rows) is in
-      absurd (omega (arith, le, same, more)))) rows pass)
+    let is : x.message.subject ≡ m.subject = (bytes_eq-Decides x.message.subject m.subject).0 mine in
+    let le = leb-true (count_by (is_of x.message.subject) rows) most (within lt) in
+    let same : count_by (is_of x.message.subject) rows ≡ count_by (is_of m.subject) rows = ap (λ (s : List ℕ). count_by (is_of s) rows) is in
+    absurd (omega (arith, le, same, more)))) rows pass)
     more
 
 pub goes : (most n : ℕ) (rows : List Numbered) (b : Bool) → Rises 0 (seqs rows) → PassBelow (has_at_most most rows) n rows → b ≡ too_many most rows (message_at n rows) → b ≡ true → newest_of_each most (without n rows) ≡ newest_of_each most rows

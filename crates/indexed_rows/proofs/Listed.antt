@@ -1,16 +1,15 @@
 -- Lists of values under numbers that rise, as the ordered map keeps them.
-use Rattle.std.proofs.Common.{◌≡◌, ℕ, suc, ◌<◌, ◌≤◌, Bool, true, false, cond, not, eqb, leb, List, [], ◌∷◌, ◌++◌, zero, ◌-◌, ◌+◌, Option, Some, None, inl, inr, refl, sym, ap, ◌∙◌, arith, Ordering, length}
-use Rattle.std.specs.Prelude.{filter, slice_get, ◌&&◌}
+use Rattle.std.proofs.Common.{◌≡◌, ℕ, suc, ◌<◌, ◌≤◌, Bool, true, false, cond, not, eqb, leb, List, [], ◌∷◌, ◌++◌, zero, Some, None, inl, inr, refl, sym, ap, arith, length}
+use Rattle.std.specs.Prelude.{filter, slice_get}
 use Rattle.std.specs.declared.cmp.Ordering.TheVariants.{Less, Equal, Greater}
 use Rattle.std.specs.Cmp.{nat_cmp_is}
-use Rattle.std.specs.Ordering.{nat_cmp, is_eq, is_le}
+use Rattle.std.specs.Ordering.{nat_cmp, is_le}
 use Rattle.std.specs.Map.{keys_of, lookup, remove_entry}
 use Rattle.std.specs.BTreeMap.{is_at, insert_entry}
-use Rattle.std.proofs.lemmas.Bool.{cases_order, cases_eq, eq-eqb, ne_eqb, eqb-true, eqb-false, le-leb, lt-leb, cases_lt, cases_Bool}
+use Rattle.std.proofs.lemmas.Bool.{cases_order, cases_eq, eq-eqb, ne_eqb, le-leb, lt-leb, cases_Bool}
 use Rattle.std.proofs.lemmas.Option.{same_Some}
-use Rattle.stream_fold.specs.Histories.{either}
 use Rattle.stream_fold.specs.RowLists.{Rises}
-use Rattle.indexed_rows.specs.Entries.{value_at, first_number, last_number, entry_from, with_newest}
+use Rattle.indexed_rows.specs.Entries.{value_at, last_number, entry_from}
 
 -- ---- the order of numbers
 

@@ -9,7 +9,7 @@ use Rattle.std.specs.Cmp.{eq_by_cmp_equiv}
 use Rattle.std.specs.Cmp.Lexicographic.{nat_list_cmp_total, nat_list_eq_equiv, slice_cmp}
 use Rattle.std.specs.Str.{bytes_eq}
 use Rattle.std.specs.Ordering.{is_eq, nat_cmp}
-use Rattle.std.specs.BTreeMap.{BTreeMap, UpdatesBy, WritesThrough}
+use Rattle.std.specs.BTreeMap.{UpdatesBy, WritesThrough}
 use Rattle.std.specs.Map.{KeepsOthers, keys_of}
 use Rattle.std.specs.Global.{Vec}
 use Rattle.indexed_rows.specs.Entries.{Entries, first_number, last_number}

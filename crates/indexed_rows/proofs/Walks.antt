@@ -1,7 +1,6 @@
 -- Walks over rows by their numbers.
-use Rattle.std.proofs.Common.{◌≡◌, ℕ, suc, ◌<◌, ◌≤◌, ◌+◌, ◌-◌, Bool, true, false, cond, not, ◌&&◌, ◌||◌, eqb, leb, List, [], ◌∷◌, ◌++◌, Option, Some, None, inl, inr, ◌⊎◌, ◌≢◌, refl, sym, ap, subst, ◌∙◌, arith, length}
-use Rattle.std.specs.Prelude.{filter, slice_get}
-use Rattle.std.specs.List.{list_any}
+use Rattle.std.proofs.Common.{◌≡◌, ℕ, suc, ◌<◌, ◌≤◌, ◌+◌, Bool, true, false, cond, not, ◌&&◌, eqb, leb, List, [], ◌∷◌, Option, Some, None, inl, inr, ◌⊎◌, ◌≢◌, refl, sym, ap, subst, ◌∙◌, arith, length}
+use Rattle.std.specs.Prelude.{filter}
 use Rattle.std.specs.Map.{keys_of}
 use Rattle.std.proofs.lemmas.Bool.{cases_Bool, le-leb, lt-leb, leb-true, leb-false, eq-eqb, ne_eqb, eqb-true, cases_eq, cases_lt, lt-ltb, le-ltb, not-true, not-false}
 use Rattle.std.proofs.lemmas.List.Sums.{length-filter, count_by-le-length}
@@ -15,8 +14,8 @@ use Rattle.stream_fold.specs.Publishing.{next_match}
 use Rattle.stream_fold.specs.RowLists.{EachRow, Rises, seqs}
 use Rattle.stream_fold.proofs.KeptRows.{EachRow-filter, EachRow-weaker, each_from_none}
 use Rattle.indexed_rows.specs.Entries.{entry_from, last_number, number_from, value_at}
-use Rattle.indexed_rows.specs.Indexes.{rows_of, seq_in, takes, excess, expired_front, expired_in, matches_in, TimesRise}
-use Rattle.indexed_rows.proofs.RowLemmas.{none_below, only_at, seqs-items, message_at-items}
+use Rattle.indexed_rows.specs.Indexes.{rows_of, takes, excess, expired_front, expired_in, matches_in, TimesRise}
+use Rattle.indexed_rows.proofs.RowLemmas.{only_at, seqs-items, message_at-items}
 
 -- ---- the first entry from a number on
 
@@ -95,13 +94,13 @@ pub match_skip : (low n : ℕ) (f : List (List ℕ)) (items : List (ℕ × Messa
 match_skip low n f [] e r h taken = absurd (cc)
 match_skip low n f (x ∷ xs) e r h taken = elim (cases_Bool (leb n x.0)) [
   | inl here ↦
-    (let q : x ≡ e = same_Some x e (rw here at h) in
-    let t : takes f x.1.subject ≡ false = ap (λ (p : ℕ × Message). takes f p.1.subject) q ∙ taken in
-    let s : x.0 ≡ e.0 = ap (λ (p : ℕ × Message). p.0) q in
-    rw (lt-leb (e.0 + 1) x.0 (omega (arith, s)), here, t) (match_low (e.0 + 1) n (suc x.0) f xs r.1 (omega (arith, s)) (let le = leb-true n x.0 here in omega (arith, le))))
+      (let q : x ≡ e = same_Some x e (rw here at h) in
+      let t : takes f x.1.subject ≡ false = ap (λ (p : ℕ × Message). takes f p.1.subject) q ∙ taken in
+      let s : x.0 ≡ e.0 = ap (λ (p : ℕ × Message). p.0) q in
+      rw (lt-leb (e.0 + 1) x.0 (omega (arith, s)), here, t) (match_low (e.0 + 1) n (suc x.0) f xs r.1 (omega (arith, s)) (let le = leb-true n x.0 here in omega (arith, le))))
   | inr other ↦
-    (let q = entry_low (suc x.0) n xs e r.1 (rw other at h) in
-    rw (lt-leb (e.0 + 1) x.0 (omega (arith, q)), other) (match_skip (suc x.0) n f xs e r.1 (rw other at h) taken))
+      (let q = entry_low (suc x.0) n xs e r.1 (rw other at h) in
+      rw (lt-leb (e.0 + 1) x.0 (omega (arith, q)), other) (match_skip (suc x.0) n f xs e r.1 (rw other at h) taken))
 ]
 
 pub match_none : (n : ℕ) (f : List (List ℕ)) (items : List (ℕ × Message)) → entry_from n items ≡ None → next_match n f (rows_of items) ≡ None
@@ -139,9 +138,9 @@ excess_step c [] n r h = elim (cases_Bool (are_within c [])) [
 excess_step c (row ∷ rows) n r h = elim (cases_Bool (are_within c (row ∷ rows))) [
   | inl here ↦ absurd (let q = rw here at h in cc)
   | inr other ↦
-    (let is : row.seq ≡ n = same_Some row.seq n (rw other at h) in
-    let left : without n (row ∷ rows) ≡ rows = subst (λ k. without k (row ∷ rows) ≡ rows) is (without_front 0 row rows r) in
-    (ap (λ rs. newest_within c rs) left ∙ rw other refl, (let q = ap (λ (rs : List Numbered). length rs) left in omega (arith, q))))
+      (let is : row.seq ≡ n = same_Some row.seq n (rw other at h) in
+      let left : without n (row ∷ rows) ≡ rows = subst (λ k. without k (row ∷ rows) ≡ rows) is (without_front 0 row rows r) in
+      (ap (λ rs. newest_within c rs) left ∙ rw other refl, (let q = ap (λ (rs : List Numbered). length rs) left in omega (arith, q))))
 ]
 
 pub excess_end : (c : Config) (rows : List Numbered) → excess c rows ≡ None → rows ≡ newest_within c rows
@@ -159,9 +158,9 @@ pub expired_step : (max_age now : ℕ) (rows : List Numbered) (n : ℕ) → Rise
 expired_step max_age now [] n r h = absurd (cc)
 expired_step max_age now (row ∷ rows) n r h = elim (cases_Bool (is_expired max_age now row)) [
   | inl here ↦
-    (let is : row.seq ≡ n = same_Some row.seq n (rw here at h) in
-    let left : without n (row ∷ rows) ≡ rows = subst (λ k. without k (row ∷ rows) ≡ rows) is (without_front 0 row rows r) in
-    (ap (λ rs. fresh max_age now rs) left ∙ rw here refl, (let q = ap (λ (rs : List Numbered). length rs) left in omega (arith, q))))
+      (let is : row.seq ≡ n = same_Some row.seq n (rw here at h) in
+      let left : without n (row ∷ rows) ≡ rows = subst (λ k. without k (row ∷ rows) ≡ rows) is (without_front 0 row rows r) in
+      (ap (λ rs. fresh max_age now rs) left ∙ rw here refl, (let q = ap (λ (rs : List Numbered). length rs) left in omega (arith, q))))
   | inr other ↦ absurd (let q = rw other at h in cc)
 ]
 
@@ -213,11 +212,11 @@ pass_until : (p : Numbered → Bool) (k n low : ℕ) (items : List (ℕ × Messa
 pass_until p k n low [] r h pass = tt
 pass_until p k n low (x ∷ xs) r h pass = elim (cases_Bool (leb k x.0)) [
   | inl here ↦
-    (let e = same_Some x.0 n (rw here at h) in
-    ((λ lt. absurd (omega (arith, lt, e))), pass_above p n (suc x.0) (rows_of xs) (subst (λ ns. Rises (suc x.0) ns) (sym (seqs-items xs)) r.1) (omega (arith, e))))
+      (let e = same_Some x.0 n (rw here at h) in
+      ((λ lt. absurd (omega (arith, lt, e))), pass_above p n (suc x.0) (rows_of xs) (subst (λ ns. Rises (suc x.0) ns) (sym (seqs-items xs)) r.1) (omega (arith, e))))
   | inr other ↦
-    (let lt = leb-false k x.0 other in
-    ((λ _. pass.0 lt), pass_until p k n (suc x.0) xs r.1 (rw other at h) pass.1))
+      (let lt = leb-false k x.0 other in
+      ((λ _. pass.0 lt), pass_until p k n (suc x.0) xs r.1 (rw other at h) pass.1))
 ]
 
 pub rows_rise : (items : List (ℕ × Message)) → Rises 0 (keys_of items) → Rises 0 (seqs (rows_of items))
@@ -230,7 +229,7 @@ pass_to p k n items r h pass = pass_until p k n 0 items r h pass
 -- and with the row of that number
 pub pass_on : (p : Numbered → Bool) (n : ℕ) (rows : List Numbered) → PassBelow p n rows → EachRow (λ r. r.seq ≡ n → p r ≡ true) rows → PassBelow p (n + 1) rows
 pass_on p n [] pass here = tt
-pass_on p n (row ∷ rows) pass here = ((λ lt. elim (cases_eq row.seq n) [ | inl e ↦ here.0 e | inr other ↦ pass.0 (omega (arith, lt, other)) ]), pass_on p n rows pass.1 here.1)
+pass_on p n (row ∷ rows) pass here = ((λ lt. elim (cases_eq row.seq n) [ inl e ↦ here.0 e | inr other ↦ pass.0 (omega (arith, lt, other)) ]), pass_on p n rows pass.1 here.1)
 
 filter_all : (p : Numbered → Bool) (rows : List Numbered) → EachRow (λ r. p r ≡ true) rows → rows ≡ filter p rows
 filter_all p [] h = refl
@@ -238,7 +237,7 @@ filter_all p (row ∷ rows) h = rw h.0 (ap (λ rs. row ∷ rs) (filter_all p row
 
 pub pass_each : (p : Numbered → Bool) (n : ℕ) (rows : List Numbered) → PassBelow p n rows → EachRow (λ r. n ≤ r.seq → p r ≡ true) rows → EachRow (λ r. p r ≡ true) rows
 pass_each p n [] pass rest = tt
-pass_each p n (row ∷ rows) pass rest = (elim (cases_lt row.seq n) [ | inl lt ↦ pass.0 lt | inr le ↦ rest.0 le ], pass_each p n rows pass.1 rest.1)
+pass_each p n (row ∷ rows) pass rest = (elim (cases_lt row.seq n) [ inl lt ↦ pass.0 lt | inr le ↦ rest.0 le ], pass_each p n rows pass.1 rest.1)
 
 pub none_past : (P : Numbered → Type 0) (k : ℕ) (items : List (ℕ × Message)) → number_from k items ≡ None → EachRow (λ r. k ≤ r.seq → P r) (rows_of items)
 none_past P k [] h = tt

@@ -49,12 +49,7 @@ pub fn list_number(subjects: &mut Subjects, subject: &[u8], number: u64)
 
 /// Takes a number of the subject away, and the subject itself where it has no other number, and isn't
 /// the one that is ready.
-pub fn unlist_number(
-    subjects: &mut Subjects,
-    subject: &[u8],
-    number: u64,
-    coming: &Option<Vec<u8>>,
-)
+pub fn unlist_number(subjects: &mut Subjects, subject: &[u8], number: u64, coming: &Option<Vec<u8>>)
     ensures listed { (other : Items ℕ) → listed other subjects.new ≡ (if bytes_eq subject.now other then filter (λ n. not (n == number)) (listed other subjects.old) else listed other subjects.old) }
     ensures ready { (room : Bool) → IsReady (ready_in coming.now) room subjects.old → IsReady (ready_in coming.now) room subjects.new }
 {
@@ -113,7 +108,11 @@ fn drop_other(subjects: &mut Subjects, earlier: &[u8], subject: &[u8])
 }
 
 /// Makes room for one more number of the subject. Without memory all places stay.
-pub fn reserve_number(alloc: Global, subjects: &mut Subjects, subject: &[u8]) -> Result<(), NoMemory>
+pub fn reserve_number(
+    alloc: Global,
+    subjects: &mut Subjects,
+    subject: &[u8],
+) -> Result<(), NoMemory>
     ensures listed { (other : Items ℕ) → listed other subjects.new ≡ listed other subjects.old }
     ensures places { (other : Items ℕ) → has_place other subjects.old ≡ true → has_place other subjects.new ≡ true }
     ensures ok { OnOk result (has_place subject.now subjects.new ≡ true) }

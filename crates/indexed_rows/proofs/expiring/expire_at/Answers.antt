@@ -1,11 +1,8 @@
-use Rattle.std.proofs.Common.{◌≡◌, Bool, List, ℕ, Option, Some, None, true, false, not, inl, inr, refl, sym, ap, ◌∙◌}
+use Rattle.std.proofs.Common.{not, inl, inr, refl, ◌∙◌}
 use Rattle.std.specs.Option.{option_copied}
-use Rattle.nats_text.specs.declared.message.Message.{Message}
-use Rattle.stream_fold.specs.declared.entry.Numbered.{Numbered}
-use Rattle.stream_fold.specs.Histories.{is_expired, message_at}
-use Rattle.indexed_rows.specs.Indexes.{rows_of, expired_in}
-use Rattle.indexed_rows.proofs.RowLemmas.{message_at-items}
-use Rattle.indexed_rows.proofs.Walks.{Looked, looked_away, looked_over, refuses, expiry_told, rows_rise}
+use Rattle.stream_fold.specs.Histories.{is_expired}
+use Rattle.indexed_rows.specs.Indexes.{rows_of}
+use Rattle.indexed_rows.proofs.Walks.{looked_away, looked_over, expiry_told, rows_rise}
 use Rattle.indexed_rows.proofs.expiring.expire_at.Goals as goal
 
 pub returns-then-has_expired-clause-stay : goal.returns-then-has_expired-clause-stay

@@ -1,11 +1,9 @@
-use Rattle.std.proofs.Common.{◌≡◌, ◌<◌, ◌≤◌, ◌+◌, Bool, List, ℕ, true, not, refl, sym, subst, ◌∙◌, arith, Some}
+use Rattle.std.proofs.Common.{◌≡◌, ◌≤◌, List, ℕ, not, refl, sym, subst, ◌∙◌, arith}
 use Rattle.std.specs.Prelude.{filter}
 use Rattle.nats_text.specs.declared.message.Message.{Message}
-use Rattle.stream_fold.specs.declared.entry.Numbered.{Numbered}
 use Rattle.stream_fold.specs.Histories.{is_expired}
-use Rattle.stream_fold.specs.RowLists.{EachRow}
 use Rattle.indexed_rows.specs.Indexes.{rows_of}
-use Rattle.indexed_rows.proofs.Walks.{PassBelow, pass_none, walked, each_left, number_ge, walk_done, walk_ends, bounded, none_at_all}
+use Rattle.indexed_rows.proofs.Walks.{pass_none, walked, each_left, number_ge, walk_done, walk_ends, bounded, none_at_all}
 use Rattle.indexed_rows.proofs.expiring.expire_each.Goals as goal
 
 pub returns-in_default-clause-rows : goal.returns-in_default-clause-rows

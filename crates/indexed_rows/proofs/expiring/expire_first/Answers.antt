@@ -1,4 +1,4 @@
-use Rattle.std.proofs.Common.{◌≡◌, ◌<◌, not, eqb, List, sym, ap, subst, ◌∙◌, length}
+use Rattle.std.proofs.Common.{◌<◌, not, eqb, List, sym, ap, subst, ◌∙◌, length}
 use Rattle.stream_fold.specs.declared.entry.Numbered.{Numbered}
 use Rattle.indexed_rows.specs.Indexes.{rows_of, TimesRise}
 use Rattle.indexed_rows.proofs.RowLemmas.{times-filter}

@@ -1,4 +1,4 @@
-use Rattle.std.proofs.Common.{◌≡◌, Bool, Option, Some, None, cond, ℕ, sym, ap, ◌∙◌}
+use Rattle.std.proofs.Common.{Bool, Some, None, cond, sym, ap, ◌∙◌}
 use Rattle.indexed_rows.proofs.Walks.{front_none, front_at}
 use Rattle.indexed_rows.proofs.expiring.first_expired.Goals as goal
 

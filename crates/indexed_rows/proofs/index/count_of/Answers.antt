@@ -1,5 +1,5 @@
-use Rattle.std.proofs.Common.{◌≡◌, ap, ◌∙◌, List, ℕ, length}
-use Rattle.indexed_rows.specs.Indexes.{rows_of, last_of_list}
+use Rattle.std.proofs.Common.{ap, ◌∙◌, List, ℕ, length}
+use Rattle.indexed_rows.specs.Indexes.{rows_of}
 use Rattle.indexed_rows.proofs.RowLemmas.{count-numbers}
 use Rattle.indexed_rows.proofs.index.count_of.Goals as goal
 

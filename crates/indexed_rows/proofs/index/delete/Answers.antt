@@ -1,11 +1,10 @@
-use Rattle.std.proofs.Common.{◌≡◌, ℕ, ◌+◌, ◌-◌, not, eqb, List, Some, None, sym, ap, subst, ◌∙◌, arith}
+use Rattle.std.proofs.Common.{◌≡◌, ℕ, ◌-◌, not, eqb, List, Some, sym, ap, subst, ◌∙◌, arith}
 use Rattle.std.specs.Prelude.{filter}
 use Rattle.std.specs.Map.{keys_of}
 use Rattle.nats_text.specs.declared.message.Message.{Message}
 use Rattle.stream_fold.specs.declared.entry.Numbered.{Numbered}
 use Rattle.stream_fold.specs.Histories.{message_at}
 use Rattle.stream_fold.specs.RowLists.{IsTotal, Rises, seqs}
-use Rattle.indexed_rows.specs.Entries.{value_at}
 use Rattle.indexed_rows.specs.Indexes.{rows_of, numbers_of, listed, ready_in, IsInOrder}
 use Rattle.indexed_rows.proofs.Changes.{both_change, ready_room, absent_item}
 use Rattle.indexed_rows.proofs.Listed.{rises_filter}

@@ -1,5 +1,5 @@
-use Rattle.std.proofs.Common.{◌≡◌, ℕ, List, sym, subst, ◌∙◌}
-use Rattle.stream_fold.specs.RowLists.{Rises, seqs}
+use Rattle.std.proofs.Common.{ℕ, List, sym, subst, ◌∙◌}
+use Rattle.stream_fold.specs.RowLists.{Rises}
 use Rattle.indexed_rows.specs.Indexes.{rows_of}
 use Rattle.indexed_rows.proofs.RowLemmas.{seqs-items, without_first-at, without_first-none}
 use Rattle.indexed_rows.proofs.index.drop_first.Goals as goal

@@ -1,4 +1,4 @@
-use Rattle.std.proofs.Common.{◌≡◌, ap, ◌∙◌, List, ℕ}
+use Rattle.std.proofs.Common.{ap, ◌∙◌, List, ℕ}
 use Rattle.std.specs.Prelude.{filter}
 use Rattle.indexed_rows.specs.Indexes.{rows_of, first_of_list, is_of}
 use Rattle.indexed_rows.proofs.RowLemmas.{first-seqs}

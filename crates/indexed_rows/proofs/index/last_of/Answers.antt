@@ -1,4 +1,4 @@
-use Rattle.std.proofs.Common.{◌≡◌, ap, ◌∙◌, List, ℕ, length}
+use Rattle.std.proofs.Common.{ap, ◌∙◌, List, ℕ}
 use Rattle.indexed_rows.specs.Indexes.{rows_of, last_of_list}
 use Rattle.indexed_rows.proofs.RowLemmas.{last-numbers}
 use Rattle.indexed_rows.proofs.index.last_of.Goals as goal

@@ -1,6 +1,4 @@
-use Rattle.std.proofs.Common.{◌≡◌, ◌+◌, ℕ, Some, None, sym, ◌∙◌, arith}
-use Rattle.nats_text.specs.declared.message.Message.{Message}
-use Rattle.indexed_rows.specs.Entries.{entry_from}
+use Rattle.std.proofs.Common.{◌+◌, sym, ◌∙◌, arith}
 use Rattle.indexed_rows.proofs.Walks.{entry_ge, nothing_last, nothing_past, match_found, match_skip, match_none}
 use Rattle.indexed_rows.proofs.index.next_match.Goals as goal
 

@@ -1,4 +1,4 @@
-use Rattle.std.proofs.Common.{◌≡◌, sym}
+use Rattle.std.proofs.Common.{sym}
 use Rattle.indexed_rows.proofs.Walks.{entry_number, entry_no_number}
 use Rattle.indexed_rows.proofs.index.number_from.Goals as goal
 

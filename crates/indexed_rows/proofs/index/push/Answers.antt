@@ -2,7 +2,7 @@ use Rattle.std.proofs.Common.{◌≡◌, ℕ, ◌+◌, ◌++◌, ◌∷◌, [], 
 use Rattle.std.specs.Map.{keys_of}
 use Rattle.nats_text.specs.declared.message.Message.{Message}
 use Rattle.stream_fold.specs.declared.entry.Numbered.{Numbered}
-use Rattle.stream_fold.specs.RowLists.{IsTotal, Rises, seqs}
+use Rattle.stream_fold.specs.RowLists.{IsTotal, Rises}
 use Rattle.indexed_rows.specs.Indexes.{rows_of, numbers_of, listed, IsInOrder}
 use Rattle.indexed_rows.proofs.Changes.{both_change}
 use Rattle.indexed_rows.proofs.RowLemmas.{seqs-items, rows_of-push, rises-numbers, rises-items, total-push, numbers-push, order-push}

@@ -1,7 +1,6 @@
 use Rattle.std.proofs.Common.{◌≡◌, ℕ, List, true, cond, not, eqb, leb, Option, None, sym, ap, ◌∙◌}
 use Rattle.std.specs.Prelude.{find, filter, slice_get, count_by, ◌&&◌}
 use Rattle.std.specs.Option.{option_map}
-use Rattle.nats_text.specs.declared.message.Message.{Message}
 use Rattle.stream_fold.specs.declared.entry.Numbered.{Numbered}
 use Rattle.stream_fold.specs.Counting.{pushed_out}
 use Rattle.indexed_rows.specs.Indexes.{rows_of, is_of}

@@ -1,4 +1,4 @@
-use Rattle.std.proofs.Common.{◌≡◌, ◌<◌, List, sym, ap, subst, ◌∙◌, length}
+use Rattle.std.proofs.Common.{◌<◌, List, sym, ap, subst, ◌∙◌, length}
 use Rattle.stream_fold.specs.declared.entry.Numbered.{Numbered}
 use Rattle.stream_fold.specs.Histories.{newest_within}
 use Rattle.indexed_rows.specs.Indexes.{rows_of}

@@ -1,6 +1,5 @@
-use Rattle.std.proofs.Common.{◌≡◌, ◌≤◌, ◌+◌, List, ℕ, refl, sym, subst, ◌∙◌, arith}
+use Rattle.std.proofs.Common.{◌≡◌, ◌≤◌, List, ℕ, refl, sym, subst, ◌∙◌, arith}
 use Rattle.nats_text.specs.declared.message.Message.{Message}
-use Rattle.stream_fold.specs.declared.entry.Numbered.{Numbered}
 use Rattle.stream_fold.specs.Histories.{newest_of_each}
 use Rattle.indexed_rows.specs.Indexes.{rows_of, has_at_most}
 use Rattle.indexed_rows.proofs.Keeping.{keep_walked, newest_ends, newest_done}

@@ -1,4 +1,4 @@
-use Rattle.std.proofs.Common.{◌≡◌, ◌<◌, Bool, true, not, refl, sym, ◌∙◌, arith, Some}
+use Rattle.std.proofs.Common.{Bool, not, refl, sym, ◌∙◌, arith}
 use Rattle.stream_fold.specs.declared.entry.Numbered.{Numbered}
 use Rattle.stream_fold.specs.Histories.{is_purged}
 use Rattle.indexed_rows.specs.Indexes.{rows_of}

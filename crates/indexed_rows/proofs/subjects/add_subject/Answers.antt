@@ -1,4 +1,4 @@
-use Rattle.std.proofs.Common.{◌≡◌, sym, ap, ◌∙◌, Some, List, ℕ}
+use Rattle.std.proofs.Common.{ap, ◌∙◌, Some, List, ℕ}
 use Rattle.std.specs.Prelude.{⊤}
 use Rattle.std.specs.Map.{keys_of}
 use Rattle.indexed_rows.specs.Indexes.{listed}

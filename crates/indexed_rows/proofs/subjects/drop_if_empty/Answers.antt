@@ -1,4 +1,4 @@
-use Rattle.std.proofs.Common.{◌≡◌, sym, ◌∙◌, refl, None, List, [], ℕ, arith, length}
+use Rattle.std.proofs.Common.{sym, ◌∙◌, refl, None}
 use Rattle.indexed_rows.specs.Indexes.{listed}
 use Rattle.indexed_rows.proofs.Places.{puts, emptied, other_places, no_keys}
 use Rattle.indexed_rows.proofs.subjects.drop_if_empty.Goals as goal

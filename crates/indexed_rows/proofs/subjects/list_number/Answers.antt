@@ -1,4 +1,4 @@
-use Rattle.std.proofs.Common.{◌≡◌, sym, ◌∙◌, ◌++◌, ◌∷◌, [], Some, List, ℕ}
+use Rattle.std.proofs.Common.{◌≡◌, sym, ◌++◌, ◌∷◌, [], Some, List, ℕ}
 use Rattle.indexed_rows.specs.Indexes.{found}
 use Rattle.indexed_rows.proofs.Places.{writes, relisted, pushed_keys}
 use Rattle.indexed_rows.proofs.subjects.list_number.Goals as goal

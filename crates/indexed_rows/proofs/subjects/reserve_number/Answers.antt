@@ -1,4 +1,4 @@
-use Rattle.std.proofs.Common.{◌≡◌, sym, ap, Some, List, ℕ}
+use Rattle.std.proofs.Common.{sym, ap, List, ℕ}
 use Rattle.std.specs.Prelude.{⊤}
 use Rattle.std.specs.Map.{keys_of}
 use Rattle.indexed_rows.proofs.Places.{writes, same_list, kept_places, room_kept}

@@ -1,7 +1,7 @@
-use Rattle.std.proofs.Common.{◌≡◌, sym, ◌∙◌, Some, List, ℕ, not, eqb}
+use Rattle.std.proofs.Common.{◌≡◌, sym, Some, List, ℕ, not, eqb}
 use Rattle.std.specs.Prelude.{filter}
 use Rattle.indexed_rows.specs.Indexes.{found}
-use Rattle.indexed_rows.proofs.Places.{Puts, writes, relisted, removed_keys, kept_places}
+use Rattle.indexed_rows.proofs.Places.{writes, relisted, removed_keys, kept_places}
 use Rattle.indexed_rows.proofs.subjects.take_number.Goals as goal
 
 pub returns-in-Some-clause-listed : goal.returns-in-Some-clause-listed

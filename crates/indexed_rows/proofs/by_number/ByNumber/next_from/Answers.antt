@@ -1,4 +1,4 @@
-use Rattle.std.proofs.Common.{◌≡◌, sym, rules, ◌∙◌}
+use Rattle.std.proofs.Common.{sym, ◌∙◌}
 use Rattle.std.proofs.lemmas.Bool.{le-leb, lt-leb}
 use Rattle.indexed_rows.proofs.Apart.{range_at, range_none, range_newest}
 use Rattle.indexed_rows.proofs.by_number.ByNumber.next_from.Goals as goal

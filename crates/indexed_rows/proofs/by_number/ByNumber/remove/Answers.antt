@@ -1,5 +1,5 @@
-use Rattle.std.proofs.Common.{◌≡◌, sym, ◌∙◌, Some, None}
-use Rattle.indexed_rows.proofs.Apart.{alone_at, newest_at, older_at, removed_alone, removed_newest, removed_older, Leaves, without}
+use Rattle.std.proofs.Common.{sym, ◌∙◌}
+use Rattle.indexed_rows.proofs.Apart.{alone_at, newest_at, older_at, removed_alone, removed_newest, removed_older}
 use Rattle.indexed_rows.proofs.by_number.ByNumber.remove.Goals as goal
 
 pub invariant_of-self : goal.invariant_of-self

@@ -1,4 +1,4 @@
-use Rattle.std.proofs.Common.{◌≡◌, sym, ◌∙◌, Some, None}
+use Rattle.std.proofs.Common.{sym, ◌∙◌}
 use Rattle.indexed_rows.proofs.Apart.{moved}
 use Rattle.indexed_rows.proofs.by_number.ByNumber.reserve.Goals as goal
 

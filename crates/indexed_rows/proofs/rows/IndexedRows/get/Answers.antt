@@ -1,4 +1,4 @@
-use Rattle.std.proofs.Common.{◌≡◌, ap, ◌∙◌}
+use Rattle.std.proofs.Common.{ap, ◌∙◌}
 use Rattle.stream_fold.specs.Histories.{message_at}
 use Rattle.indexed_rows.specs.Indexes.{IndexedList}
 use Rattle.indexed_rows.proofs.RowLemmas.{message_at-items}

@@ -1,5 +1,4 @@
-use Rattle.std.proofs.Common.{◌≡◌, ◌<◌, sym, ap, subst, ◌∙◌, arith, List}
-use Rattle.nats_text.specs.Sizes.{size}
+use Rattle.std.proofs.Common.{◌≡◌, ◌<◌, sym, ap, subst, arith, List}
 use Rattle.stream_fold.specs.declared.entry.Numbered.{Numbered}
 use Rattle.stream_fold.specs.Histories.{size_of}
 use Rattle.stream_fold.specs.RowLists.{EachRow}

@@ -202,7 +202,7 @@ rises-items low n m (e ∷ es) each h le = (h.0, rises-items (suc e.0) n m es ea
 
 -- ---- the first row of a subject
 
-first_least : (low n : ℕ) (s : List ℕ) (rows : List Numbered) → Rises low (seqs rows) → seq_in (slice_get (filter (is_of s) rows) 0) ≡ Some n → low ≤ n
+pub first_least : (low n : ℕ) (s : List ℕ) (rows : List Numbered) → Rises low (seqs rows) → seq_in (slice_get (filter (is_of s) rows) 0) ≡ Some n → low ≤ n
 first_least low n s [] h first = absurd (cc)
 first_least low n s (row ∷ rows) h first = elim (cases_Bool (is_of s row)) [
   | inl here ↦ (let e = same_Some row.seq n (rw here at first) in omega (arith, e, h.0))

@@ -116,11 +116,11 @@ match_none n f (x ∷ xs) h = elim (cases_Bool (leb n x.0)) [
 abbrev pub without : ℕ → List Numbered → List Numbered
 without n rows = filter (λ row. not (eqb row.seq n)) rows
 
-length_cond : (b : Bool) (row : Numbered) (rows : List Numbered) → length (cond b (row ∷ rows) rows) ≤ suc (length rows)
+pub length_cond : (b : Bool) (row : Numbered) (rows : List Numbered) → length (cond b (row ∷ rows) rows) ≤ suc (length rows)
 length_cond true row rows = omega arith
 length_cond false row rows = omega arith
 
-length_most : (p : Numbered → Bool) (rows : List Numbered) → length (filter p rows) ≤ length rows
+pub length_most : (p : Numbered → Bool) (rows : List Numbered) → length (filter p rows) ≤ length rows
 length_most p rows = omega (arith, length-filter p rows, count_by-le-length p rows)
 
 pub without_front : (low : ℕ) (row : Numbered) (rows : List Numbered) → Rises low (seqs (row ∷ rows)) → without row.seq (row ∷ rows) ≡ rows
@@ -231,7 +231,7 @@ pub pass_on : (p : Numbered → Bool) (n : ℕ) (rows : List Numbered) → PassB
 pass_on p n [] pass here = tt
 pass_on p n (row ∷ rows) pass here = ((λ lt. elim (cases_eq row.seq n) [ inl e ↦ here.0 e | inr other ↦ pass.0 (omega (arith, lt, other)) ]), pass_on p n rows pass.1 here.1)
 
-filter_all : (p : Numbered → Bool) (rows : List Numbered) → EachRow (λ r. p r ≡ true) rows → rows ≡ filter p rows
+pub filter_all : (p : Numbered → Bool) (rows : List Numbered) → EachRow (λ r. p r ≡ true) rows → rows ≡ filter p rows
 filter_all p [] h = refl
 filter_all p (row ∷ rows) h = rw h.0 (ap (λ rs. row ∷ rs) (filter_all p rows h.1))
 

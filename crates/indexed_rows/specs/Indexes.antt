@@ -133,3 +133,12 @@ has_at_most most rows row = nat_le (count_by (has_subject_of row) rows) most
 abbrev pub too_many : ℕ → List Numbered → Option Message → Bool
 too_many most rows None = false
 too_many most rows (Some m) = nat_lt most (count_by (is_of m.subject) rows)
+
+-- the number, where it is below this one
+abbrev pub below_in : ℕ → Option ℕ → Option ℕ
+below_in below None = None
+below_in below (Some n) = if nat_lt n below then Some n else None
+
+-- a byte that is no wildcard
+abbrev pub is_plain : ℕ → Bool
+is_plain b = not (b == 42) && not (b == 62)

@@ -3,7 +3,7 @@ use Rattle.stream_fold.specs.declared.entry.Numbered.{Numbered}
 use Rattle.stream_fold.specs.Histories.{is_purged}
 use Rattle.indexed_rows.specs.Indexes.{rows_of}
 use Rattle.indexed_rows.proofs.Walks.{pass_none, walked, pass_to, number_ge, walk_stops, walk_ends, not_below}
-use Rattle.indexed_rows.proofs.purging.purge.Goals as goal
+use Rattle.indexed_rows.proofs.purging.purge_each.Goals as goal
 
 pub loop-seq-init : goal.loop-seq-init
 loop-seq-init c = record { indexed = c.requires; rest = refl; pass = pass_none (λ row. not (is_purged c.args.pattern.now c.args.below row)) (rows_of c.args.index.now.messages.items); ready = refl }

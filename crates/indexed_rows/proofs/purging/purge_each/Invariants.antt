@@ -3,7 +3,7 @@ use Rattle.std.specs.Prelude.{filter}
 use Rattle.stream_fold.specs.Histories.{is_purged}
 use Rattle.indexed_rows.specs.Indexes.{IsIndexed, rows_of}
 use Rattle.indexed_rows.proofs.Walks.{PassBelow}
-use Rattle.indexed_rows.proofs.purging.purge.Given as goal
+use Rattle.indexed_rows.proofs.purging.purge_each.Given as goal
 
 -- what doesn't go is still there, and of what was looked at nothing else is
 abbrev pub invariant-loop-seq : goal.invariant-loop-seq

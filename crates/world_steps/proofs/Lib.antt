@@ -1,0 +1,4 @@
+pub mod Runs
+pub mod Wholes
+pub mod Carrying
+pub mod Adding

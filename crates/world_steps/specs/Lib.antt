@@ -1,0 +1,9 @@
+pub mod Links
+pub mod Routes
+pub mod Works
+pub mod Tasks
+pub mod Steps
+pub mod CaughtUp
+pub mod Settling
+pub mod Nets
+pub mod Laws

@@ -1,15 +1,18 @@
 -- Which calls of the disks a call of a shard makes, by what its parts make.
-use Rattle.std.proofs.Common.{◌≡◌, ◌∙◌, ℕ, Bool, true, false, ◌&&◌, List, [], ◌++◌, Result, Ok, Err, refl, sym, ap, subst, append-nil}
+use Rattle.std.proofs.Common.{◌≡◌, ◌∙◌, ℕ, ◌+◌, ◌-◌, ◌^◌, min, Bool, true, false, ◌&&◌, List, [], ◌++◌, Result, Ok, Err, refl, sym, ap, subst, append-nil, inr}
 use Rattle.leaf_edges.specs.Disks.{Op}
 use Rattle.record_codec.specs.declared.records.Rec.{Rec}
 use Rattle.record_log.specs.LogStates.{LogState, in_use, counted, uncounted}
 use Rattle.record_log.specs.Opening.{AddsAll, AddsFront, OpenDoes, open_calls}
 use Rattle.record_log.specs.declared.fault.OpenFault.{OpenFault}
+use Rattle.log_replay.specs.declared.replay.Replay.{Replay}
+use Rattle.record_codec.specs.declared.records.Rec.TheVariants.{Boot}
 use Rattle.shard_machine.specs.Steps.{Held}
 use Rattle.shard_calls.specs.Adding.{AddsCalls}
-use Rattle.shard_calls.specs.DeviceCalls.{DidNothing, DidThese, AppendsFront, AppendsAtMost, LoadsFront, CallDoes}
+use Rattle.shard_calls.specs.DeviceCalls.{DidNothing, DidThese, AppendsFront, AppendsAtMost, LoadsFront, CallDoes, OpeningOf}
 use Rattle.shard_calls.specs.Memories.{MemoryParts, at}
-use Rattle.shard_calls.specs.Shards.{Keeps, KeepsIf}
+use Rattle.shard_calls.specs.Shards.{Keeps, KeepsIf, IsReread}
+use Rattle.shard_calls.proofs.Loading.{is-next, opening-number, streams-small}
 
 did-these : {D : Type 0} (done : D → List Op) (old new : LogState D) (front : List Op) → new.on_spare ≡ old.on_spare → uncounted new ≡ uncounted old → done (counted new) ≡ done (counted old) ++ front → DidThese done old new front
 did-these done old new front disk one calls = (
@@ -44,3 +47,9 @@ kept-ready m l h keeps on = by m.loaded refl
     by : (b : Bool) → m.loaded ≡ b → (m.loaded && l.is_open) ≡ true
     by true is = ap (λ (b : Bool). b && l.is_open) is ∙ (subst (λ (b : Bool). KeepsIf b (at m l) h) is keeps.parts).1.0
     by false is = absurd (let wrong : true ≡ false = sym on ∙ keeps.loaded ∙ is in cc)
+
+-- the opening that a load adds is the log's next one
+pub opening-of : {D : Type 0} (images : D → List ℕ → Type 0) (done : D → List Op) (m : MemoryParts) (l l' : LogState D) (streams : Replay) (h : Held) (before settled : List Rec) (keeps : Keeps (at m l) h) (re : IsReread images l streams h before settled) (n : ℕ) → n ≡ min (streams.boot + 1) (2 ^ 64 - 1) → AppendsFront done l l' (Boot n) → OpeningOf done l l' h
+opening-of images done m l l' streams h before settled keeps re n is front =
+    let number = opening-number streams.boot n (streams-small images (λ _. 0) (λ _ _ _. ⊥) m m l l' streams h before settled keeps re n) is in
+    inr (settled, re.is_settled, subst (AppendsFront done l l') (is-next images (λ _. 0) (λ _ _ _. ⊥) m m l l' streams h before settled keeps re n number) front)

@@ -36,7 +36,7 @@ module _ {D : Type 0} (l l' : LogState D) (streams : Replay) (before : List Rec)
   boot-is : (image before).boot ≡ streams.boot
   boot-is = image-boot no_image before ∙ sym replayed.boot_is
 
-  opening-is : Boot n ≡ next_boot (image before)
+  pub opening-is : Boot n ≡ next_boot (image before)
   opening-is = ap (λ (k : ℕ). Boot k) (first-number ∙ ap (λ (k : ℕ). k + 1) (sym boot-is))
 
   -- the room that was looked for is that of the next opening

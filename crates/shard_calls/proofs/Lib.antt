@@ -5,10 +5,13 @@ pub mod FaultCounts
 pub mod FirstOpenings
 pub mod Loading
 pub mod LogLists
+pub mod LogsRead
+pub mod Readable
 pub mod Reopened
 pub mod ShardAnswers
 pub mod ShardCalls
 pub mod ShardMoves
 pub mod Spelled
+pub mod Standings
 pub mod StepsBehind
 pub mod TableKinds

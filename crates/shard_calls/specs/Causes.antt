@@ -1,5 +1,5 @@
 -- Where a disk failed in a call of a shard, and what its log counts of that.
-use Rattle.std.specs.Prelude.{◌≡◌, ℕ, Bool, true, false, MatchBool, Result, Ok, Err}
+use Rattle.std.specs.Prelude.{◌≡◌, ◌==◌, ℕ, Bool, true, false, MatchBool, Result, Ok, Err}
 use Rattle.leaf_edges.specs.Causes.{RoseByOne}
 use Rattle.record_log.specs.LogStates.{LogState}
 use Rattle.record_log.specs.Opening.{OneRose, NoneRose}
@@ -31,6 +31,17 @@ is_disk_fault _ = false
 abbrev pub is_fault : Outcome → Bool
 is_fault (outcome.Refused why) = is_disk_fault why
 is_fault _ = false
+
+-- the refusal says that what a disk holds is no journal, or is too long to be read
+abbrev pub is_unreadable : ShardRefusal → Bool
+is_unreadable (refusal.BadJournal place) = true
+is_unreadable (refusal.JournalFull end need) = need == 0
+is_unreadable _ = false
+
+-- the outcome says so
+abbrev pub is_unread : Outcome → Bool
+is_unread (outcome.Refused why) = is_unreadable why
+is_unread _ = false
 
 -- one call of one of the disks failed, or none did
 abbrev pub FailedIf : {D : Type 0} → Bool → (D → ℕ) → LogState D → LogState D → Type 0

@@ -7,7 +7,8 @@ use Rattle.record_codec.specs.declared.records.Rec.{Rec}
 use Rattle.record_log.specs.LogStates.{LogState, counted, uncounted, in_use}
 use Rattle.record_log.specs.Opening.{AddsFront}
 use Rattle.shard_machine.specs.Answers.{Answers}
-use Rattle.shard_machine.specs.Steps.{Held, view_in}
+use Rattle.shard_machine.specs.Images.{image_after}
+use Rattle.shard_machine.specs.Steps.{Held, IsReady, IsSettled, next_boot, view_in}
 use Rattle.shard_machine.specs.Views.{Effect}
 use Rattle.shard_machine.specs.declared.call.ShardCall.{ShardCall}
 
@@ -42,3 +43,19 @@ LoadsFront {D = D} seen unsynced done old new = DidNothing done old new ⊎ ((re
 -- A shard that is ready takes what at most one append makes. One that isn't takes first what a load makes.
 abbrev pub CallDoes : {D : Type 0} → (D → List ℕ) → (D → Bool) → (D → List Op) → Bool → LogState D → LogState D → Type 0
 CallDoes {D = D} seen unsynced done ready old new = MatchBool ready (AppendsAtMost done old new) ((loaded : LogState D) × LoadsFront seen unsynced done old loaded × AppendsAtMost done loaded new)
+
+-- the disks took nothing, or some front of the calls by which the log's next opening is appended, behind the record in doubt or
+-- without it
+abbrev pub OpeningOf : {D : Type 0} → (D → List Op) → LogState D → LogState D → Held → Type 0
+OpeningOf done old new h = DidNothing done old new ⊎ ((settled : List Rec) × IsSettled h.doubt settled × AppendsFront done old new (next_boot (image_after h.image settled)))
+
+-- the disks took nothing, or what an opening of the log makes, and then what the append of its next opening makes
+abbrev pub LoadsOf : {D : Type 0} → (D → List ℕ) → (D → Bool) → (D → List Op) → LogState D → LogState D → Held → Type 0
+LoadsOf {D = D} seen unsynced done old new h = DidNothing done old new ⊎ ((read : LogState D) × OpensFront seen unsynced done old read × OpeningOf done read new h)
+
+-- A call that loads: the disks took what the load makes, and then nothing, or what at most one append makes of the one record of the
+-- call, as the shard answers it that is ready then.
+pub record LoadsAndAppends {D : Type 0} (seen : D → List ℕ) (unsynced : D → Bool) (done : D → List Op) (old new : LogState D) (c : ShardCall) (h : Held) : Type 0 where
+  pub loaded : LogState D
+  pub loads : LoadsOf seen unsynced done old loaded h
+  pub appends : DidNothing done loaded new ⊎ ((records : List Rec) × (ready : Held) × IsReady h records ready × AppendsOf done loaded new c ready)

@@ -3,6 +3,7 @@ pub mod Causes
 pub mod DeviceCalls
 pub mod Failing
 pub mod FirstLoads
+pub mod LogsRead
 pub mod Memories
 pub mod PreparedCalls
 pub mod Shards

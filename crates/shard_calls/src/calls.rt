@@ -1,4 +1,4 @@
-ghost use Rattle.std.specs.Prelude.{◌≡◌, ◌&&◌, List as Items, true, false, OnOk, OnErr};
+ghost use Rattle.std.specs.Prelude.{◌≡◌, ◌&&◌, List as Items, true, false, OnOk, OnErr, IfErr};
 ghost use Rattle.record_codec.specs.declared.records.Rec.{Rec as Record};
 ghost use Rattle.shard_machine.specs.Images.{image};
 ghost use Rattle.shard_machine.specs.Legal.{IsLegal};
@@ -6,8 +6,9 @@ ghost use Rattle.shard_machine.specs.Steps.{Held, view_in, end_after};
 ghost use Rattle.shard_machine.specs.Views.{View, Effect};
 ghost use Rattle.log_replay.specs.Replays.{IsReplayOf};
 ghost use Rattle.shard_table.specs.Answering.{record_in};
-ghost use Rattle.shard_calls.specs.Causes.{CallCauses, ReadyCauses};
-ghost use Rattle.shard_calls.specs.DeviceCalls.{AppendsAtMost, AppendsFront, AppendsOf, CallDoes, LoadsFront};
+ghost use Rattle.shard_calls.specs.Causes.{CallCauses, ReadyCauses, is_unread, is_unreadable};
+ghost use Rattle.shard_calls.specs.DeviceCalls.{AppendsAtMost, AppendsFront, AppendsOf, CallDoes, LoadsAndAppends, LoadsFront, LoadsOf, OpeningOf};
+ghost use Rattle.shard_calls.specs.LogsRead.{ReadsOrNot, StepsFromRead};
 ghost use Rattle.shard_calls.specs.Memories.{at};
 ghost use Rattle.shard_calls.specs.PreparedCalls.{IsReadyIn};
 ghost use Rattle.shard_calls.specs.Shards.{Keeps, IsFor, StepsFrom, StepsOn, Readies, IsReread};
@@ -31,11 +32,15 @@ pub(crate) fn answer<D: Disk>(
     call: &ShardCall,
 ) -> ShardReply
     ensures loaded { (h : Held) → Keeps (at memory.old log.old) h → h.loaded ≡ true → StepsFrom call.now result (at memory.new log.new) h }
+    ensures read { (h : Held) → Keeps (at memory.old log.old) h → h.loaded ≡ false → StepsFromRead call.now result (at memory.new log.new) h }
     ensures on { (h : Held) (before : Items Record) → D.tells → Keeps (at memory.old log.old) h → IsFor D.images log.old h before →
         StepsOn D.images D.moment D.left_since log.old call.now result (at memory.new log.new) h before }
+    ensures stood { (h : Held) (before : Items Record) → D.tells → Keeps (at memory.old log.old) h → IsFor D.images log.old h before → is_unread result.outcome ≡ false }
     ensures cause { CallCauses D.faults log.old log.new result }
     ensures calls { D.tells → CallDoes D.seen D.unsynced D.done (memory.old.loaded && log.old.is_open) log.old log.new }
     ensures appends { (h : Held) → D.tells → Keeps (at memory.old log.old) h → h.loaded ≡ true → AppendsOf D.done log.old log.new call.now h }
+    ensures loads { (h : Held) (before : Items Record) → D.tells → Keeps (at memory.old log.old) h → IsFor D.images log.old h before → h.loaded ≡ false →
+        LoadsAndAppends D.seen D.unsynced D.done log.old log.new call.now h }
     ensures leads { D.leads log.old.main log.new.main × D.leads log.old.spare log.new.spare }
 {
     match ready(alloc, log, memory) {
@@ -113,11 +118,15 @@ pub(crate) fn ready<D: Disk>(
     ensures ready { OnOk result ((memory.new.loaded ≡ true) × (log.new.is_open ≡ true)) }
     ensures loaded { (h : Held) → Keeps (at memory.old log.old) h → h.loaded ≡ true → OnOk result (Keeps (at memory.new log.new) h) }
     ensures was { (h : Held) → Keeps (at memory.old log.old) h → OnErr result (h.loaded ≡ false) }
+    ensures read { (h : Held) → Keeps (at memory.old log.old) h → h.loaded ≡ false → ReadsOrNot h (at memory.new log.new) result }
     ensures on { (h : Held) (before : Items Record) → D.tells → Keeps (at memory.old log.old) h → IsFor D.images log.old h before →
         Readies D.images D.moment D.left_since log.old (at memory.new log.new) h before result }
+    ensures stood { (h : Held) (before : Items Record) → D.tells → Keeps (at memory.old log.old) h → IsFor D.images log.old h before → IfErr result (λ failure. is_unreadable failure.why ≡ false) }
     ensures same { (memory.old.loaded && log.old.is_open) ≡ true → log.new ≡ log.old }
     ensures cause { ReadyCauses D.faults log.old log.new result }
     ensures calls { D.tells → LoadsFront D.seen D.unsynced D.done log.old log.new }
+    ensures opens { (h : Held) (before : Items Record) → D.tells → Keeps (at memory.old log.old) h → IsFor D.images log.old h before → h.loaded ≡ false →
+        LoadsOf D.seen D.unsynced D.done log.old log.new h }
     ensures leads { D.leads log.old.main log.new.main × D.leads log.old.spare log.new.spare }
 {
     if is_ready(log, memory) {
@@ -151,10 +160,14 @@ fn begin<D: Disk>(
     requires is_open { log.old.is_open ≡ true }
     requires replayed { (before : Items Record) × IsLegal before × IsReplayOf streams before }
     ensures ready { OnOk result ((memory.new.loaded ≡ true) × (log.new.is_open ≡ true)) }
+    ensures read { (h : Held) (before : Items Record) → Keeps (at memory.old log.old) h → h.loaded ≡ false → IsLegal before → IsReplayOf streams before → log.old.end ≡ end_after 17 before →
+        ReadsOrNot h (at memory.new log.new) result }
     ensures on { (h : Held) (before settled : Items Record) → D.tells → Keeps (at memory.old log.old) h → IsReread D.images log.old streams h before settled →
         Readies D.images D.moment D.left_since log.old (at memory.new log.new) h before result }
+    ensures stood { IfErr result (λ failure. is_unreadable failure.why ≡ false) }
     ensures cause { ReadyCauses D.faults log.old log.new result }
     ensures calls { D.tells → AppendsAtMost D.done log.old log.new }
+    ensures opens { (h : Held) (before settled : Items Record) → D.tells → Keeps (at memory.old log.old) h → IsReread D.images log.old streams h before settled → OpeningOf D.done log.old log.new h }
     ensures leads { D.leads log.old.main log.new.main × D.leads log.old.spare log.new.spare }
 {
     let numbered = streams.boot < (1 << 63) - 1;

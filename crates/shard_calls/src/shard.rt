@@ -7,9 +7,10 @@ ghost use Rattle.record_log.specs.Standing.{SinceStandFor};
 ghost use Rattle.shard_machine.specs.Images.{live_in};
 ghost use Rattle.shard_machine.specs.Steps.{Held, view_in};
 ghost use Rattle.shard_table.specs.Holding.{copy_seen, match_seen};
-ghost use Rattle.shard_calls.specs.Causes.{CallCauses};
-ghost use Rattle.shard_calls.specs.DeviceCalls.{AppendsOf, CallDoes};
+ghost use Rattle.shard_calls.specs.Causes.{CallCauses, is_unread};
+ghost use Rattle.shard_calls.specs.DeviceCalls.{AppendsOf, CallDoes, LoadsAndAppends};
 ghost use Rattle.shard_calls.specs.FirstLoads.{IsLoaded, LoadFails, LoadDoes, OnDisks, opened_logs};
+ghost use Rattle.shard_calls.specs.LogsRead.{StepsFromRead};
 ghost use Rattle.shard_calls.specs.Shards.{Keeps, IsFor, StepsFrom, StepsOn};
 
 use crate::calls::answer;
@@ -74,17 +75,44 @@ impl<D: Disk> Shard<D> {
         }
     }
 
-    /// Answers a call. A shard that isn't loaded loads first.
+    /// Answers a call, which its caller keeps. A shard that isn't loaded loads first.
+    pub fn answer(&mut self, call: &ShardCall) -> ShardReply
+        ensures loaded { (h : Held) → Keeps self.old h → h.loaded ≡ true → StepsFrom call.now result self.new h }
+        // On whatever disks, a call that loads first is a step from what some log leaves, or is refused by
+        // what kept the shard from loading.
+        ensures read { (h : Held) → Keeps self.old h → h.loaded ≡ false → StepsFromRead call.now result self.new h }
+        ensures on { (h : Held) (before : Items Record) → D.tells → Keeps self.old h → IsFor D.images self.old.log h before →
+            StepsOn D.images D.moment D.left_since self.old.log call.now result self.new h before }
+        // Disks that stand for a log are never told to hold none, or to be too long.
+        ensures stood { (h : Held) (before : Items Record) → D.tells → Keeps self.old h → IsFor D.images self.old.log h before → is_unread result.outcome ≡ false }
+        ensures cause { CallCauses D.faults self.old.log self.new.log result }
+        ensures calls { D.tells → CallDoes D.seen D.unsynced D.done (self.old.memory.loaded && self.old.log.is_open) self.old.log self.new.log }
+        ensures appends { (h : Held) → D.tells → Keeps self.old h → h.loaded ≡ true → AppendsOf D.done self.old.log self.new.log call.now h }
+        ensures loads { (h : Held) (before : Items Record) → D.tells → Keeps self.old h → IsFor D.images self.old.log h before → h.loaded ≡ false →
+            LoadsAndAppends D.seen D.unsynced D.done self.old.log self.new.log call.now h }
+        ensures leads { D.leads self.old.log.main self.new.log.main × D.leads self.old.log.spare self.new.log.spare }
+    {
+        answer(self.alloc, &mut self.log, &mut self.memory, call)
+    }
+
+    /// Answers a call as [`answer`](Shard::answer) does, and lets it go.
     pub fn call(&mut self, call: ShardCall) -> ShardReply
         ensures loaded { (h : Held) → Keeps self.old h → h.loaded ≡ true → StepsFrom call result self.new h }
+        // On whatever disks, a call that loads first is a step from what some log leaves, or is refused by
+        // what kept the shard from loading.
+        ensures read { (h : Held) → Keeps self.old h → h.loaded ≡ false → StepsFromRead call result self.new h }
         ensures on { (h : Held) (before : Items Record) → D.tells → Keeps self.old h → IsFor D.images self.old.log h before →
             StepsOn D.images D.moment D.left_since self.old.log call result self.new h before }
+        // Disks that stand for a log are never told to hold none, or to be too long.
+        ensures stood { (h : Held) (before : Items Record) → D.tells → Keeps self.old h → IsFor D.images self.old.log h before → is_unread result.outcome ≡ false }
         ensures cause { CallCauses D.faults self.old.log self.new.log result }
         ensures calls { D.tells → CallDoes D.seen D.unsynced D.done (self.old.memory.loaded && self.old.log.is_open) self.old.log self.new.log }
         ensures appends { (h : Held) → D.tells → Keeps self.old h → h.loaded ≡ true → AppendsOf D.done self.old.log self.new.log call h }
+        ensures loads { (h : Held) (before : Items Record) → D.tells → Keeps self.old h → IsFor D.images self.old.log h before → h.loaded ≡ false →
+            LoadsAndAppends D.seen D.unsynced D.done self.old.log self.new.log call h }
         ensures leads { D.leads self.old.log.main self.new.log.main × D.leads self.old.log.spare self.new.log.spare }
     {
-        let reply = answer(self.alloc, &mut self.log, &mut self.memory, &call);
+        let reply = self.answer(&call);
         drop(call);
         reply
     }

@@ -1,16 +1,23 @@
 use Rattle.record_codec.specs.declared.records.Rec.TheVariants.{Boot}
 use Rattle.shard_calls.proofs.CallSteps.{without_memory}
-use Rattle.shard_calls.proofs.Devices.{appends-front}
+use Rattle.shard_calls.proofs.Devices.{appends-front, opening-of}
 use Rattle.shard_calls.proofs.FaultCounts.{add-fails, refusing-causes}
-use Rattle.shard_calls.proofs.Loading.{below-number, numbers-agree, opening-follows, opening-full, opening-number, opening-room, opens, opens-in-doubt, opens-not, opens-short, parts, streams-small}
+use Rattle.shard_calls.proofs.FirstOpenings.{first-keeps, first-number, first-room, opening-is}
+use Rattle.shard_calls.proofs.LogsRead.{kept-off, opening-in-doubt, stays-unread}
+use Rattle.shard_calls.proofs.Loading.{below-number, keeps-still, numbers-agree, opening-follows, opening-full, opening-number, opening-room, opens, opens-in-doubt, opens-not, opens-short, parts, streams-small}
 use Rattle.shard_calls.proofs.ShardCalls.{place-number}
+use Rattle.shard_calls.proofs.Readable.{needs-some}
 use Rattle.shard_calls.proofs.calls.begin.Goals as goal
 use Rattle.shard_calls.specs.declared.adding.AddFault.TheVariants as fault
+use Rattle.record_codec.specs.declared.records.Rec.{Rec}
+use Rattle.shard_calls.specs.FirstLoads.{held_of, opened_log}
+use Rattle.shard_calls.specs.Memories.{at}
+use Rattle.shard_calls.specs.Shards.{Keeps}
 use Rattle.shard_machine.specs.Images.{image, next}
 use Rattle.shard_machine.specs.declared.reply.ShardRefusal.TheVariants as refusal
 use Rattle.shard_table.specs.Effects.{opened}
 use Rattle.shard_table.specs.Holding.{Holds}
-use Rattle.std.proofs.Common.{Err, Ok, ap, inl, inr, refl, subst, sym, ℕ, ◌++◌, ◌+◌, ◌∙◌}
+use Rattle.std.proofs.Common.{Err, List, Ok, Some, ap, inl, inr, refl, subst, sym, ℕ, ◌++◌, ◌+◌, ◌∙◌}
 
 pub open-requires : goal.open-requires
 open-requires g c =
@@ -93,3 +100,64 @@ returns-in-Err-NoMemory-clause-cause g c = refusing-causes g.D.Disk.faults c.arg
 
 pub returns-in-Err-NoMemory-clause-calls : goal.returns-in-Err-NoMemory-clause-calls
 returns-in-Err-NoMemory-clause-calls g c tells = inr (Boot c.saturating_add-number.result, appends-front g.D.Disk.done c.args.log.now c.add_opening.new.log (Boot c.saturating_add-number.result) c.in-Err-NoMemory.ensures.disk c.in-Err-NoMemory.ensures.one (c.in-Err-NoMemory.ensures.calls tells))
+
+pub returns-in-Ok-clause-opens : goal.returns-in-Ok-clause-opens
+returns-in-Ok-clause-opens g c h before settled tells keeps re = opening-of g.D.Disk.images g.D.Disk.done c.args.memory.now c.args.log.now c.add_opening.new.log c.args.streams h before settled keeps re c.saturating_add-number.result c.saturating_add-number.ensures
+    (appends-front g.D.Disk.done c.args.log.now c.add_opening.new.log (Boot c.saturating_add-number.result) c.in-Ok.ensures.disk c.in-Ok.ensures.one (c.in-Ok.ensures.calls tells))
+
+pub returns-in-Err-DiskFault-clause-opens : goal.returns-in-Err-DiskFault-clause-opens
+returns-in-Err-DiskFault-clause-opens g c h before settled tells keeps re = opening-of g.D.Disk.images g.D.Disk.done c.args.memory.now c.args.log.now c.add_opening.new.log c.args.streams h before settled keeps re c.saturating_add-number.result c.saturating_add-number.ensures
+    (appends-front g.D.Disk.done c.args.log.now c.add_opening.new.log (Boot c.saturating_add-number.result) c.in-Err-DiskFault.ensures.disk c.in-Err-DiskFault.ensures.one (c.in-Err-DiskFault.ensures.calls tells))
+
+pub returns-in-Err-Full-clause-opens : goal.returns-in-Err-Full-clause-opens
+returns-in-Err-Full-clause-opens g c h before settled tells keeps re = opening-of g.D.Disk.images g.D.Disk.done c.args.memory.now c.args.log.now c.add_opening.new.log c.args.streams h before settled keeps re c.saturating_add-number.result c.saturating_add-number.ensures
+    (appends-front g.D.Disk.done c.args.log.now c.add_opening.new.log (Boot c.saturating_add-number.result) c.in-Err-Full.ensures.disk c.in-Err-Full.ensures.one (c.in-Err-Full.ensures.calls tells))
+
+pub returns-in-Err-NoMemory-clause-opens : goal.returns-in-Err-NoMemory-clause-opens
+returns-in-Err-NoMemory-clause-opens g c h before settled tells keeps re = opening-of g.D.Disk.images g.D.Disk.done c.args.memory.now c.args.log.now c.add_opening.new.log c.args.streams h before settled keeps re c.saturating_add-number.result c.saturating_add-number.ensures
+    (appends-front g.D.Disk.done c.args.log.now c.add_opening.new.log (Boot c.saturating_add-number.result) c.in-Err-NoMemory.ensures.disk c.in-Err-NoMemory.ensures.one (c.in-Err-NoMemory.ensures.calls tells))
+
+pub returns-in-Ok-clause-read : goal.returns-in-Ok-clause-read
+returns-in-Ok-clause-read g c h before keeps off legal replayed end =
+    let is = first-number c.args.log.now c.add_opening.new.log c.args.streams before legal replayed end c.saturating_add-number.result c.saturating_add-number.ensures in
+    let numbers = numbers-agree c.args.streams.boot c.saturating_add-number.result is in
+    let small = place-number c.args.log.now.end (Boot c.saturating_add-number.result) _ c.in-Ok.ensures.ends.0 in
+    let bound = below-number c.args.streams.boot _ replayed.boot_is small in
+    let was = kept-off c.args.memory.now c.args.log.now h keeps off in
+    let then = c.open.ensures.holds was.1 before was.2 legal replayed bound in
+    let kept = first-keeps c.args.log.now c.add_opening.new.log c.args.streams before legal replayed end c.saturating_add-number.result c.saturating_add-number.ensures c.open.new.self was.1 c.open.ensures.loaded c.in-Ok.ensures.ends.1
+    (subst (λ (k : ℕ). Holds c.open.new.self.table (opened was.1.node (next (image before) (Boot k)))) (sym (is ∙ ap (λ (k : ℕ). k + 1) replayed.boot_is)) then) in
+    record {
+      log = before;
+      legal = legal;
+      room = sym (first-room c.args.log.now c.add_opening.new.log c.args.streams before legal replayed end c.saturating_add-number.result c.saturating_add-number.ensures _ numbers) ∙ c.in-Ok.ensures.ends.0;
+      keeps = subst (λ (node : List ℕ). Keeps (at c.open.new.self c.add_opening.new.log) (held_of node (opened_log before))) was.3 kept;
+    }
+
+pub returns-in-Err-DiskFault-clause-read : goal.returns-in-Err-DiskFault-clause-read
+returns-in-Err-DiskFault-clause-read g c h before keeps off legal replayed end =
+    let is = first-number c.args.log.now c.add_opening.new.log c.args.streams before legal replayed end c.saturating_add-number.result c.saturating_add-number.ensures in
+    let numbers = numbers-agree c.args.streams.boot c.saturating_add-number.result is in
+    let ends = rw c.in-Err-DiskFault.field-0-is at c.in-Err-DiskFault.ensures.ends in
+    let was = kept-off c.args.memory.now c.args.log.now h keeps off in
+    rw c.refusing.ensures (opening-in-doubt c.args.memory.now c.leave_opening_in_doubt.new.self c.args.log.now c.add_opening.new.log h before keeps off legal (sym (first-room c.args.log.now c.add_opening.new.log c.args.streams before legal replayed end c.saturating_add-number.result c.saturating_add-number.ensures _ numbers) ∙ ends.0)
+    c.leave_opening_in_doubt.ensures.loaded (c.leave_opening_in_doubt.ensures.doubt ∙ ap (λ (r : Rec). Some r) (opening-is c.args.log.now c.add_opening.new.log c.args.streams before legal replayed end c.saturating_add-number.result c.saturating_add-number.ensures)) (c.leave_opening_in_doubt.ensures.holds was.1 before was.2 legal replayed))
+
+pub returns-in-Err-Full-clause-read : goal.returns-in-Err-Full-clause-read
+returns-in-Err-Full-clause-read g c h before keeps off legal replayed end =
+    rw c.refusing-in-Err-Full.ensures (stays-unread (at c.args.memory.now c.add_opening.new.log) h (refusal.JournalFull c.in-Err-Full.end c.in-Err-Full.need) _ (keeps-still c.args.memory.now c.args.memory.now c.args.log.now c.add_opening.new.log h keeps off refl (sym keeps.loaded ∙ off) refl) refl)
+
+pub returns-in-Err-NoMemory-clause-read : goal.returns-in-Err-NoMemory-clause-read
+returns-in-Err-NoMemory-clause-read g c h before keeps off legal replayed end =
+    rw c.refusing-in-Err-NoMemory.ensures (stays-unread (at c.args.memory.now c.add_opening.new.log) h refusal.NoMemory _ (keeps-still c.args.memory.now c.args.memory.now c.args.log.now c.add_opening.new.log h keeps off refl (sym keeps.loaded ∙ off) refl) refl)
+
+pub returns-in-Err-DiskFault-clause-stood : goal.returns-in-Err-DiskFault-clause-stood
+returns-in-Err-DiskFault-clause-stood g c = rw c.refusing.ensures refl
+
+pub returns-in-Err-Full-clause-stood : goal.returns-in-Err-Full-clause-stood
+returns-in-Err-Full-clause-stood g c =
+    let ends = rw c.in-Err-Full.field-0-is at c.in-Err-Full.ensures.ends in
+    rw c.refusing-in-Err-Full.ensures (needs-some c.in-Err-Full.need _ ends.3)
+
+pub returns-in-Err-NoMemory-clause-stood : goal.returns-in-Err-NoMemory-clause-stood
+returns-in-Err-NoMemory-clause-stood g c = rw c.refusing-in-Err-NoMemory.ensures refl

@@ -307,7 +307,7 @@ fn text_of(alloc: Global, value: &Value) -> Result<Bytes, NoMemory>
     Ok(Bytes::from_vec(text.into_bytes()))
 }
 
-/// The text of a configuration: its JSON in one line, with the members in byte order of their names.
+/// The text of a configuration: its JSON without blanks, with the members in byte order of their names.
 /// [`has_texts`](crate::has_texts) tells the condition.
 pub fn config_to_json(alloc: Global, config: &Config) -> Result<Bytes, NoMemory>
     requires { is_text config.now ≡ true }

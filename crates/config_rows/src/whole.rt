@@ -5,8 +5,8 @@ use std::test::Fail;
 const DEFAULT: &str =
     r#"{"discard":"old","duplicate_window":120000000000,"max_age":0,"max_bytes":-1,"max_msg_size":-1,"max_msgs":-1,"max_msgs_per_subject":-1,"name":"S","num_replicas":1,"retention":"limits","storage":"file","subjects":["S"]}"#;
 
-/// Members beside the name that say no more than the name, among them all that clients send with a
-/// configuration of which nothing is set.
+/// Members beside the name that say no more than the name, among them such as clients
+/// write out although nothing is set.
 const NOTHING: [&str; 9] = [
     r#""subjects":[]"#,
     r#""subjects":["S"]"#,

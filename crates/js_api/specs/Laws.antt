@@ -77,7 +77,7 @@ IsPlainReply (Listed names offset total) = IsTrue (list_all is_name names) × Is
 IsPlainReply (Found found) = IsNumbered found
 IsPlainReply (Fault code err_code text) = (code < 2 ^ 32) × (err_code < 2 ^ 32) × IsUtf8 text
 
--- each answer is one line of JSON
+-- each answer without a configuration is one line of JSON
 abbrev pub AnswersAreLines : Type 0
 AnswersAreLines = (request : ApiCall) (reply : ApiReply) → IsPlainReply reply → IsLineOf (answer_data request reply) (answer_text request reply)
 

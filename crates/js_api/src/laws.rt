@@ -8,7 +8,8 @@ pub fn subjects()
     ensures alone { ReadsSubjectsAlone }
 {}
 
-/// Whatever is answered is one line of JSON, whose members stand in byte order.
+/// An answer without a configuration is one line of JSON, whose members stand in byte order; so is what
+/// a publish is answered.
 pub fn lines()
     ensures answers { AnswersAreLines }
     ensures acks { AcksAreLines }

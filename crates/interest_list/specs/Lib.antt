@@ -3,3 +3,4 @@ pub mod Lists
 pub mod Targets
 pub mod Tellings
 pub mod Changes
+pub mod Taking

@@ -10,6 +10,7 @@ mod change;
 mod fault;
 mod interest;
 mod kept;
+pub mod laws;
 mod order;
 mod subscription;
 mod target;

@@ -1,6 +1,8 @@
 mod Empties
 mod Floats
-mod Json
+pub mod Json
 mod Names
+pub mod OneLine
+mod Passing
 mod ReadBack
-mod Written
+pub mod Written

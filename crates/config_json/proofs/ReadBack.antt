@@ -87,7 +87,7 @@ limit_read n h =
     let P : Bool → Type 0 = λ b. (n == 0) ≡ b → limit_of (cond b (number (negative (negsuc 0))) (whole n)) ≡ Some n in
     let go : (b : Bool) → P b = λ b. elim b as P [
       | true ↦ (λ e. ap (λ k. Some k) (sym (eqb-true n 0 e)))
-      | false ↦ (λ e. ap (λ t. option_and_then limit_from (cond t (Some (pos n)) None)) (lt-ltb n (2 ^ 63) h))
+      | false ↦ (λ e. ap (λ t. option_and_then limit_from (cond t (Some (pos n)) None)) (lt-ltb n (2 ^ 63) h) ∙ ap (λ t. cond t (Some n) None) (lt-ltb n (2 ^ 63) h))
     ] in
     go (n == 0) refl
 

@@ -191,7 +191,8 @@ transform_plain : (m : Option Mapping) (others : Members) → option_map_or mapp
 transform_plain None others t p = p
 transform_plain (Some m) others t p = (IsUtf8-are_ascii (codes "subject_transform") refl, mapping_plain m t, p)
 
-config_plain : (c : Config) → IsConfig c → is_text c ≡ true → Plain (config_data c)
+-- what is written of a configuration is whole numbers and texts
+pub config_plain : (c : Config) → IsConfig c → is_text c ≡ true → Plain (config_data c)
 config_plain c h t =
     let texts = and_parts (copies_are_text c.copies) (option_map_or mapping_is_text c.transform true) t in
     let one : 1 < 2 ^ 64 = omega arith in (
@@ -288,6 +289,10 @@ config_shallow c New (Mirror o) None = omega (arith, limit_shallow c.max_bytes, 
 config_shallow c New (Mirror o) (Some m) = omega (arith, limit_shallow c.max_bytes, limit_shallow c.max_msg_size, limit_shallow c.max_msgs, limit_shallow c.max_per_subject, texts_shallow c.subjects, origin_shallow o)
 config_shallow c New (Sources os) None = omega (arith, limit_shallow c.max_bytes, limit_shallow c.max_msg_size, limit_shallow c.max_msgs, limit_shallow c.max_per_subject, texts_shallow c.subjects, origins_shallow os)
 config_shallow c New (Sources os) (Some m) = omega (arith, limit_shallow c.max_bytes, limit_shallow c.max_msg_size, limit_shallow c.max_msgs, limit_shallow c.max_per_subject, texts_shallow c.subjects, origins_shallow os)
+
+-- it is no deeper than five levels
+pub written_shallow : (c : Config) → depth (config_data c) ≤ 5
+written_shallow c = config_shallow c c.discard c.copies c.transform
 
 pub texts_read : (c : Config) → IsConfig c → is_text c ≡ true → read (config_text c) ≡ Some (config_data c)
 texts_read c h t =

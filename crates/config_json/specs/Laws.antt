@@ -1,8 +1,9 @@
 -- What holds of all configurations.
-use Rattle.std.specs.Prelude.{◌≡◌, ◌<◌, ◌^◌, List, [], ◌∷◌, true, None, Some, Ok}
+use Rattle.std.specs.Prelude.{◌≡◌, ℕ, ◌<◌, ◌^◌, List, [], ◌∷◌, true, None, Some, Ok}
 use Rattle.std.specs.List.{list_all}
 use Rattle.std.specs.Option.{option_map_or}
 use Rattle.serde_json.specs.Read.{read}
+use Rattle.nats_text.specs.Headers.{is_line_byte}
 use Rattle.nats_text.specs.Text.{is_name, is_pattern}
 use Rattle.nats_text.specs.declared.message.Start.{Start}
 use Rattle.nats_text.specs.declared.message.Start.TheVariants.{Seq, Time}
@@ -56,3 +57,11 @@ TextsAreRead = (c : Config) → IsConfig c → is_text c ≡ true → read (conf
 -- what is written of a configuration that a stream may have is read as the same configuration
 abbrev pub ConfigsAreRead : Type 0
 ConfigsAreRead = (c : Config) → IsConfig c → is_text c ≡ true → config_fault c ≡ None → config_of (config_text c) ≡ Ok c
+
+-- what is read as a configuration is one that a stream may have
+abbrev pub ReadsArePassed : Type 0
+ReadsArePassed = (text : List ℕ) (c : Config) → config_of text ≡ Ok c → config_fault c ≡ None
+
+-- what is written of a configuration is one line
+abbrev pub ConfigsAreLines : Type 0
+ConfigsAreLines = (c : Config) → IsConfig c → is_text c ≡ true → list_all is_line_byte (config_text c) ≡ true

@@ -47,9 +47,9 @@ whole_of d = option_and_then as_u64 (as_number d)
 abbrev pub number_of : Data → Option ℕ
 number_of d = option_and_then (λ n. if nat_lt n (2 ^ 63) then Some n else None) (whole_of d)
 
--- a limit, which is none at 0 and at -1
+-- a limit below 2^63, which is none at 0 and at -1
 abbrev pub limit_from : ℤ → Option ℕ
-limit_from (pos n) = Some n
+limit_from (pos n) = if nat_lt n (2 ^ 63) then Some n else None
 limit_from (negsuc zero) = Some 0
 limit_from (negsuc (suc n)) = None
 

@@ -4,6 +4,8 @@
 #[cfg(test)]
 mod bad;
 #[cfg(test)]
+mod ends;
+#[cfg(test)]
 mod told;
 #[cfg(test)]
 mod whole;

@@ -1,83 +1,15 @@
 -- Data without nulls and fractions, whose members are in order, are read from their text.
-use Rattle.std.proofs.Common.{◌≡◌, ℕ, suc, max, ◌^◌, ◌<◌, ◌≤◌, [], List, Bool, true, false, ◌&&◌, Some, Ordering, Less, Equal, Greater, refl, sym, ap, ap₂, ◌∙◌, arith, IsUtf8, append-nil}
-use Rattle.std.specs.Prelude.{⊤, option_and_then, option_map}
+use Rattle.std.proofs.Common.{◌≡◌, ℕ, ◌≤◌, List, Bool, true, false, ◌&&◌, Some, Ordering, Less, Equal, Greater, refl, sym, ap, subst, ◌∙◌, arith}
+use Rattle.std.specs.Prelude.{option_and_then, option_map}
 use Rattle.std.specs.Ordering.{nat_cmp, match_ordering}
 use Rattle.std.specs.Cmp.Lexicographic.{slice_cmp}
 use Rattle.std.proofs.lemmas.Bool.{and_parts, and_from, false≢true}
-use Rattle.json.specs.Lex.{tokens}
-use Rattle.json.specs.Json as json
-use Rattle.json.specs.Tree as tree
-use Rattle.json.proofs.Printed.Decimals.{IsNumber-decimal}
-use Rattle.json.proofs.Printed.Tokens.{tokens-print}
-use Rattle.json.proofs.Printed.Trees.{ArePrintable-json_tokens, value-json_tokens}
-use Rattle.serde_json.specs.Data.{Num, unsigned, negative, float, Data, null, boolean, number, string, array, object, Items, no_items, item, Members, no_members, member, put, depth, items_depth, members_depth}
+use Rattle.serde_json.specs.Data.{unsigned, negative, float, Data, null, boolean, number, string, array, object, Items, no_items, item, Members, no_members, member, put, depth}
 use Rattle.serde_json.specs.Read.{read, of_json, of_items, of_members, max_depth}
 use Rattle.serde_json.specs.Written.{outline, items_outline, members_outline, compact_text}
-use Rattle.serde_json.proofs.Numbers.{number_of-decimal}
-use Rattle.serde_json.proofs.Texts.{print-outline}
+use Rattle.serde_json.proofs.Numbers.{number_of-decimal, number_of-negative}
+use Rattle.config_json.proofs.Json.{Plain, PlainItems, PlainMembers, reads_again as read_back}
 use Rattle.js_api.specs.Laws.{is_below, in_order, items_in_order, members_in_order}
-
--- a whole number of 64 bits
-abbrev pub PlainNumber : Num → Type 0
-PlainNumber (unsigned n) = n < 2 ^ 64
-PlainNumber (negative z) = ⊥
-PlainNumber (float x) = ⊥
-
--- whole numbers of 64 bits, flags and texts alone
-abbrev mutual
-  pub Plain : Data → Type 0
-  Plain null = ⊥
-  Plain (boolean b) = ⊤
-  Plain (number n) = PlainNumber n
-  Plain (string s) = IsUtf8 s
-  Plain (array ds) = PlainItems ds
-  Plain (object ms) = PlainMembers ms
-
-  pub PlainItems : Items → Type 0
-  PlainItems no_items = ⊤
-  PlainItems (item d ds) = Plain d × PlainItems ds
-
-  pub PlainMembers : Members → Type 0
-  PlainMembers no_members = ⊤
-  PlainMembers (member k d ms) = IsUtf8 k × Plain d × PlainMembers ms
-
--- ---- the texts of numbers are numbers
-
-mutual
-  has_numbers : (d : Data) → Plain d → tree.HasNumbers (outline d)
-  has_numbers null h = absurd h
-  has_numbers (boolean b) h = tt
-  has_numbers (number (unsigned n)) h = IsNumber-decimal n h
-  has_numbers (number (negative z)) h = absurd h
-  has_numbers (number (float x)) h = absurd h
-  has_numbers (string s) h = tt
-  has_numbers (array ds) h = items_have_numbers ds h
-  has_numbers (object ms) h = members_have_numbers ms h
-
-  items_have_numbers : (ds : Items) → PlainItems ds → tree.ItemsHaveNumbers (items_outline ds)
-  items_have_numbers no_items h = tt
-  items_have_numbers (item d ds) h = (has_numbers d h.0, items_have_numbers ds h.1)
-
-  members_have_numbers : (ms : Members) → PlainMembers ms → tree.MembersHaveNumbers (members_outline ms)
-  members_have_numbers no_members h = tt
-  members_have_numbers (member k d ms) h = (has_numbers d h.1, members_have_numbers ms h.2)
-
-mutual
-  same_depth : (d : Data) → tree.depth (outline d) ≡ depth d
-  same_depth null = refl
-  same_depth (boolean b) = refl
-  same_depth (number n) = refl
-  same_depth (string s) = refl
-  same_depth (array ds) = ap (λ n. suc n) (same_items_depth ds)
-  same_depth (object ms) = ap (λ n. suc n) (same_members_depth ms)
-
-  same_items_depth : (ds : Items) → tree.items_depth (items_outline ds) ≡ items_depth ds
-  same_items_depth no_items = refl
-  same_items_depth (item d ds) = ap₂ max (same_depth d) (same_items_depth ds)
-
-  same_members_depth : (ms : Members) → tree.members_depth (members_outline ms) ≡ members_depth ms
-  same_members_depth no_members = refl
-  same_members_depth (member k d ms) = ap₂ max (same_depth d) (same_members_depth ms)
 
 -- ---- members that are put one after another in order
 
@@ -146,7 +78,7 @@ mutual
   data_back null h o = absurd h
   data_back (boolean b) h o = refl
   data_back (number (unsigned n)) h o = ap (option_map number) (number_of-decimal n h)
-  data_back (number (negative z)) h o = absurd h
+  data_back (number (negative z)) h o = subst (λ w. of_json (outline (number (negative w))) ≡ Some (number (negative w))) (sym h) (ap (option_map number) (number_of-negative 0 (omega arith)))
   data_back (number (float x)) h o = absurd h
   data_back (string s) h o = refl
   data_back (array ds) h o = ap (option_map array) (items_back ds h o)
@@ -170,8 +102,4 @@ mutual
 
 -- what is written reads as the data
 pub reads_again : (d : Data) → Plain d → in_order d ≡ true → depth d ≤ max_depth → read (compact_text d) ≡ Some d
-reads_again d plain ordered shallow =
-    let ts = tree.json_tokens (outline d) in
-    let text : tokens (compact_text d) ≡ ts = ap tokens (sym (print-outline d)) ∙ tokens-print ts (ArePrintable-json_tokens (outline d) (has_numbers d plain)) in
-    let low : tree.depth (outline d) ≤ max_depth = omega (arith, same_depth d, shallow) in
-    ap (λ o. option_and_then of_json (option_and_then (λ p. json.if_last p.0 p.1) o)) (ap (json.value max_depth) (text ∙ sym (append-nil ts)) ∙ value-json_tokens (outline d) max_depth [] low) ∙ data_back d plain ordered
+reads_again d plain ordered shallow = read_back d plain (data_back d plain ordered) shallow

@@ -1,7 +1,7 @@
 mod Floats
 mod Json
+mod Configs
 mod Lines
-mod OneLine
 mod Texts
 mod Topics
 mod Words

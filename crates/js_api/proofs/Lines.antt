@@ -1,5 +1,5 @@
 -- Each answer is one line of JSON.
-use Rattle.std.proofs.Common.{◌≡◌, ℕ, ◌^◌, ◌<◌, ◌≤◌, List, [], ◌∷◌, Bool, true, false, refl, map, arith, IsUtf8}
+use Rattle.std.proofs.Common.{◌≡◌, ℕ, ◌^◌, ◌<◌, ◌≤◌, List, [], ◌∷◌, Bool, true, false, Option, None, Some, refl, map, arith, IsUtf8}
 use Rattle.std.specs.Prelude.{codes}
 use Rattle.std.specs.List.{list_all}
 use Rattle.std.proofs.lemmas.Bool.{and_parts}
@@ -17,14 +17,21 @@ use Rattle.moments.proofs.Clock.{moment_utf8}
 use Rattle.nats_text.specs.Headers.{written}
 use Rattle.nats_text.specs.Text.{is_name}
 use Rattle.stream_fold.specs.declared.entry.Numbered.{Numbered}
-use Rattle.js_api.specs.Answers.{moment_data, base64_data, response_type, done_data, purged_data, listed_data, headers_member, message_data, found_data, error_data, fault_data, answer_data, answer_text, ack_data, ack_text, ack_fault_data, ack_fault_text}
-use Rattle.js_api.specs.Laws.{in_order, items_in_order, IsLineOf, IsNumbered, IsPlainReply}
+use Rattle.js_api.specs.Answers.{moment_data, base64_data, response_type, done_data, purged_data, listed_data, headers_member, message_data, found_data, error_data, fault_data, state_data, creation_of, stream_data, answer_data, answer_text, ack_data, ack_text, ack_fault_data, ack_fault_text}
+use Rattle.js_api.specs.Laws.{in_order, items_in_order, IsLineOf, IsNumbered, AreFacts, IsReply}
 use Rattle.js_api.specs.declared.call.ApiCall.{ApiCall}
 use Rattle.js_api.specs.declared.call.ApiCall.TheVariants as call
 use Rattle.js_api.specs.declared.reply.ApiReply.{ApiReply}
 use Rattle.js_api.specs.declared.reply.ApiReply.TheVariants.{Made, Info, Done, Purged, Listed, Found, Fault}
-use Rattle.js_api.proofs.Json.{Plain, PlainItems, PlainMembers, reads_again}
-use Rattle.js_api.proofs.OneLine.{text_line}
+use Rattle.config_json.proofs.Json.{Plain, PlainItems, PlainMembers}
+use Rattle.config_json.proofs.Written.{config_plain, written_shallow}
+use Rattle.config_json.specs.Laws.{IsConfig}
+use Rattle.config_json.specs.Writing.{config_data, is_text}
+use Rattle.stream_fold.specs.declared.config.Config.{Config}
+use Rattle.js_api.specs.declared.reply.StateFacts.{StateFacts}
+use Rattle.js_api.proofs.Configs.{config_in_order}
+use Rattle.js_api.proofs.Json.{reads_again}
+use Rattle.config_json.proofs.OneLine.{text_line}
 use Rattle.js_api.proofs.Texts.{name_utf8, subject_utf8}
 
 line_of : (d : Data) → Plain d → in_order d ≡ true → depth d ≤ max_depth → IsLineOf d (compact_text d)
@@ -127,9 +134,56 @@ found_line found kind n h =
     let shallow : depth (message_data found) ≤ 1 = parts_shallow payload block found.seq found.message.subject found.message.time in
     line_of (found_data found kind) (IsUtf8-are_ascii (codes "message") refl, plain, type_plain kind h) (rw ordered refl) (omega (arith, shallow))
 
-pub answers : (request : ApiCall) (reply : ApiReply) → IsPlainReply reply → IsLineOf (answer_data request reply) (answer_text request reply)
-answers request (Made config facts fresh) h = absurd h
-answers request (Info config facts) h = absurd h
+-- ---- streams
+
+state_plain : (facts : StateFacts) → AreFacts facts → Plain (state_data facts)
+state_plain facts f = (
+  IsUtf8-are_ascii (codes "bytes") refl,
+  f.bytes,
+  (
+    IsUtf8-are_ascii (codes "consumer_count") refl,
+    f.consumers,
+    (IsUtf8-are_ascii (codes "first_seq") refl, f.first, (IsUtf8-are_ascii (codes "last_seq") refl, f.last, (IsUtf8-are_ascii (codes "messages") refl, f.count, tt))),
+  ),
+)
+
+stream_plain : (config : Config) (facts : StateFacts) (created : Option Bool) (kind : List ℕ) → Plain (config_data config) → AreFacts facts → IsUtf8 kind → Plain (stream_data config facts created kind)
+stream_plain config facts None kind p f h = (
+  IsUtf8-are_ascii (codes "config") refl,
+  p,
+  (
+    IsUtf8-are_ascii (codes "created") refl,
+    moment_utf8 facts.created f.created,
+    (IsUtf8-are_ascii (codes "state") refl, state_plain facts f, type_plain kind h),
+  ),
+)
+stream_plain config facts (Some flag) kind p f h = (
+  IsUtf8-are_ascii (codes "config") refl,
+  p,
+  (
+    IsUtf8-are_ascii (codes "created") refl,
+    moment_utf8 facts.created f.created,
+    (IsUtf8-are_ascii (codes "did_create") refl, tt, (IsUtf8-are_ascii (codes "state") refl, state_plain facts f, type_plain kind h)),
+  ),
+)
+
+stream_ordered : (config : Config) (facts : StateFacts) (created : Option Bool) (kind : List ℕ) → in_order (config_data config) ≡ true → in_order (stream_data config facts created kind) ≡ true
+stream_ordered config facts None kind o = rw o refl
+stream_ordered config facts (Some flag) kind o = rw o refl
+
+stream_shallow : (config : Config) (facts : StateFacts) (created : Option Bool) (kind : List ℕ) → depth (config_data config) ≤ 5 → depth (stream_data config facts created kind) ≤ 6
+stream_shallow config facts None kind s = omega (arith, s)
+stream_shallow config facts (Some flag) kind s = omega (arith, s)
+
+stream_line : (config : Config) (facts : StateFacts) (created : Option Bool) (kind : List ℕ) → IsConfig config → is_text config ≡ true → AreFacts facts → IsUtf8 kind
+    → IsLineOf (stream_data config facts created kind) (compact_text (stream_data config facts created kind))
+stream_line config facts created kind c t f h =
+    line_of (stream_data config facts created kind) (stream_plain config facts created kind (config_plain config c t) f h)
+    (stream_ordered config facts created kind (config_in_order config)) (omega (arith, stream_shallow config facts created kind (written_shallow config)))
+
+pub answers : (request : ApiCall) (reply : ApiReply) → IsReply reply → IsLineOf (answer_data request reply) (answer_text request reply)
+answers request (Made config facts fresh) h = stream_line config facts (creation_of request fresh) (response_type request) h.0 h.1 h.2 (kind_utf8 request)
+answers request (Info config facts) h = stream_line config facts None (response_type request) h.0 h.1 h.2 (kind_utf8 request)
 answers request Done h = done_line (response_type request) (kind_utf8 request)
 answers request (Purged count) h = purged_line count (response_type request) h (kind_utf8 request)
 answers request (Listed names offset total) h = listed_line names offset total (response_type request) h.0 h.1 h.2 (kind_utf8 request)

@@ -8,12 +8,15 @@ use Rattle.serde_json.specs.Data.{Data, null, boolean, number, string, array, ob
 use Rattle.serde_json.specs.Read.{read}
 use Rattle.nats_text.specs.Headers.{is_line_byte}
 use Rattle.nats_text.specs.Text.{is_name, is_subject}
+use Rattle.config_json.specs.Laws.{IsConfig}
+use Rattle.config_json.specs.Writing.{is_text}
 use Rattle.stream_fold.specs.declared.entry.Numbered.{Numbered}
 use Rattle.js_api.specs.Answers.{answer_data, answer_text, ack_data, ack_text, ack_fault_data, ack_fault_text}
 use Rattle.js_api.specs.Subjects.{IsTopic, subject_of, topic_of}
 use Rattle.js_api.specs.declared.call.ApiCall.{ApiCall}
 use Rattle.js_api.specs.declared.reply.ApiReply.{ApiReply}
 use Rattle.js_api.specs.declared.reply.ApiReply.TheVariants.{Made, Info, Done, Purged, Listed, Found, Fault}
+use Rattle.js_api.specs.declared.reply.StateFacts.{StateFacts}
 use Rattle.js_api.specs.declared.topic.Topic.{Topic}
 
 -- ---- subjects
@@ -67,19 +70,28 @@ pub record IsNumbered (found : Numbered) : Type 0 where
   pub subject : IsTrue (is_subject found.message.subject)
   pub time : IsWide found.message.time
 
--- an answer without a configuration, as the types hold it
-abbrev pub IsPlainReply : ApiReply → Type 0
-IsPlainReply (Made config facts fresh) = ⊥
-IsPlainReply (Info config facts) = ⊥
-IsPlainReply Done = Unit {0}
-IsPlainReply (Purged count) = IsWide count
-IsPlainReply (Listed names offset total) = IsTrue (list_all is_name names) × IsWide offset × IsWide total
-IsPlainReply (Found found) = IsNumbered found
-IsPlainReply (Fault code err_code text) = (code < 2 ^ 32) × (err_code < 2 ^ 32) × IsUtf8 text
+-- what is told of a stream's messages, as the types hold it
+pub record AreFacts (facts : StateFacts) : Type 0 where
+  pub created : IsWide facts.created
+  pub first : IsWide facts.first
+  pub last : IsWide facts.last
+  pub count : IsWide facts.count
+  pub bytes : IsWide facts.bytes
+  pub consumers : IsWide facts.consumers
 
--- each answer without a configuration is one line of JSON
+-- an answer as the types hold it, of which all texts are UTF-8
+abbrev pub IsReply : ApiReply → Type 0
+IsReply (Made config facts fresh) = IsConfig config × (is_text config ≡ true) × AreFacts facts
+IsReply (Info config facts) = IsConfig config × (is_text config ≡ true) × AreFacts facts
+IsReply Done = Unit {0}
+IsReply (Purged count) = IsWide count
+IsReply (Listed names offset total) = IsTrue (list_all is_name names) × IsWide offset × IsWide total
+IsReply (Found found) = IsNumbered found
+IsReply (Fault code err_code text) = (code < 2 ^ 32) × (err_code < 2 ^ 32) × IsUtf8 text
+
+-- each answer is one line of JSON
 abbrev pub AnswersAreLines : Type 0
-AnswersAreLines = (request : ApiCall) (reply : ApiReply) → IsPlainReply reply → IsLineOf (answer_data request reply) (answer_text request reply)
+AnswersAreLines = (request : ApiCall) (reply : ApiReply) → IsReply reply → IsLineOf (answer_data request reply) (answer_text request reply)
 
 -- each acknowledgement is one line of JSON
 abbrev pub AcksAreLines : Type 0

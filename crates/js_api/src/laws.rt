@@ -8,8 +8,7 @@ pub fn subjects()
     ensures alone { ReadsSubjectsAlone }
 {}
 
-/// An answer without a configuration is one line of JSON, whose members stand in byte order; so is what
-/// a publish is answered.
+/// Each answer is one line of JSON, whose members stand in byte order; so is what a publish is answered.
 pub fn lines()
     ensures answers { AnswersAreLines }
     ensures acks { AcksAreLines }

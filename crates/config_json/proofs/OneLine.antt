@@ -1,5 +1,5 @@
 -- What is written as JSON is one line.
-use Rattle.std.proofs.Common.{◌≡◌, ℕ, ◌+◌, ◌/◌, ◌%◌, ◌^◌, ◌<◌, ◌≤◌, List, [], ◌∷◌, ◌++◌, Bool, true, false, ◌||◌, not, ◌==◌, cond, nat_lt, refl, sym, ap, ◌∙◌, arith}
+use Rattle.std.proofs.Common.{◌≡◌, ℕ, ◌+◌, ◌/◌, ◌%◌, ◌^◌, ◌<◌, ◌≤◌, List, [], ◌∷◌, ◌++◌, Bool, true, false, ◌||◌, not, ◌==◌, cond, nat_lt, refl, sym, ap, subst, ◌∙◌, arith}
 use Rattle.std.specs.Prelude.{decimal}
 use Rattle.std.specs.Char.{digit_char}
 use Rattle.std.specs.List.{list_all}
@@ -13,7 +13,7 @@ use Rattle.json.specs.Token.{Token}
 use Rattle.serde_json.specs.Data.{unsigned, negative, float, Data, null, boolean, number, string, array, object, Items, no_items, item, Members, no_members, member}
 use Rattle.serde_json.specs.Written.{compact_text, items_text, members_text, comma_if}
 use Rattle.nats_text.specs.Headers.{is_line_byte}
-use Rattle.js_api.proofs.Json.{Plain, PlainItems, PlainMembers}
+use Rattle.config_json.proofs.Json.{Plain, PlainItems, PlainMembers}
 
 -- bytes of which none ends a line
 abbrev Line : List ℕ → Type 0
@@ -106,7 +106,7 @@ mutual
   text_line null h = absurd h
   text_line (boolean b) h = boolean_line b
   text_line (number (unsigned n)) h = decimal_line n h
-  text_line (number (negative z)) h = absurd h
+  text_line (number (negative z)) h = subst (λ w. Line (compact_text (number (negative w)))) (sym h) (line_append (45 ∷ []) (decimal 1) (one_byte 45 (high 45 (omega arith))) (decimal_line 1 (omega arith)))
   text_line (number (float x)) h = absurd h
   text_line (string s) h = quoted_line s
   text_line (array ds) h = items_line false ds h

@@ -19,7 +19,7 @@ struct Kind {
     last: &'static str,
 }
 
-const KINDS: [Kind; 6] = [
+const KINDS: [Kind; 8] = [
     Kind {
         name: "members",
         first: r#"{"name":"S""#,
@@ -54,6 +54,20 @@ const KINDS: [Kind; 6] = [
         front: r"\u0041",
         back: "",
         last: r#""}"#,
+    },
+    Kind {
+        name: "digits",
+        first: r#"{"name":"S","max_msgs":1"#,
+        front: "",
+        back: "",
+        last: "}",
+    },
+    Kind {
+        name: "fractions",
+        first: r#"{"name":"S","max_msgs":1."#,
+        front: "",
+        back: "",
+        last: "}",
     },
     Kind {
         name: "nests",

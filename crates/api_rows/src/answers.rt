@@ -62,6 +62,9 @@ const STOOD: &str =
 const SHOWN: &str =
     r#"{"config":{"discard":"old","duplicate_window":120000000000,"max_age":0,"max_bytes":-1,"max_msg_size":-1,"max_msgs":-1,"max_msgs_per_subject":-1,"name":"S","num_replicas":1,"retention":"limits","storage":"file","subjects":["S"]},"created":"2023-11-14T22:13:20.000000001Z","state":{"bytes":5,"consumer_count":6,"first_seq":2,"last_seq":18446744073709551615,"messages":4},"type":"io.nats.jetstream.api.v1.stream_info_response"}"#;
 
+const CHANGED: &str =
+    r#"{"config":{"discard":"old","duplicate_window":120000000000,"max_age":0,"max_bytes":-1,"max_msg_size":-1,"max_msgs":-1,"max_msgs_per_subject":-1,"name":"S","num_replicas":1,"retention":"limits","storage":"file","subjects":["S"]},"created":"2023-11-14T22:13:20.000000001Z","state":{"bytes":5,"consumer_count":6,"first_seq":2,"last_seq":18446744073709551615,"messages":4},"type":"io.nats.jetstream.api.v1.stream_update_response"}"#;
+
 fn create(alloc: Global) -> Result<ApiCall, TextFault> {
     let config = config(alloc)?;
     Ok(ApiCall::Create(config))
@@ -76,6 +79,11 @@ fn made(alloc: Global, fresh: bool) -> Result<ApiReply, TextFault>
         facts: FACTS,
         fresh,
     })
+}
+
+fn update(alloc: Global) -> Result<ApiCall, TextFault> {
+    let config = config(alloc)?;
+    Ok(ApiCall::Update(config))
 }
 
 fn info(alloc: Global, text: &str) -> Result<ApiCall, TextFault> {
@@ -127,12 +135,25 @@ fn shown(alloc: Global) -> Result<Bytes, TextFault> {
     }
 }
 
+/// The answer to a change of a stream.
+fn changed(alloc: Global) -> Result<Bytes, TextFault> {
+    let reply = info_reply(alloc)?;
+    match update(alloc) {
+        Ok(call) => Ok(answer(alloc, call, reply)?),
+        Err(fault) => {
+            drop(reply);
+            Err(fault)
+        }
+    }
+}
+
 #[test]
 fn streams_are_told(rt: HostRuntime) -> Result<(), Fail> {
     let alloc = rt.alloc();
     assert!(rt; created(alloc, true)?.as_slice() == CREATED.as_bytes());
     assert!(rt; created(alloc, false)?.as_slice() == STOOD.as_bytes());
     assert!(rt; shown(alloc)?.as_slice() == SHOWN.as_bytes());
+    assert!(rt; changed(alloc)?.as_slice() == CHANGED.as_bytes());
     Ok(())
 }
 
@@ -284,7 +305,7 @@ fn told(alloc: Global, refusal: ApiRefusal) -> Result<String, NoMemory> {
     words
 }
 
-/// The refusals that name nothing, in the order of their error codes.
+/// The refusals that name nothing.
 fn refusal(at: usize) -> ApiRefusal {
     match at {
         0 => ApiRefusal::NameTaken,

@@ -2,7 +2,7 @@ use crate::told::told;
 use std::test::Fail;
 
 /// What stands behind `$JS.API.` in a subject, a payload, and what they are read as.
-const ROWS: [(&str, &str, &str); 74] = [
+const ROWS: [(&str, &str, &str); 84] = [
     // Each request once.
     (
         "STREAM.CREATE.S",
@@ -80,6 +80,17 @@ const ROWS: [(&str, &str, &str); 74] = [
     ("STREAM.PURGE.S", r#"{"filter":null}"#, "bad request"),
     ("STREAM.PURGE.S", r#"{"seq":"7"}"#, "bad request"),
     ("STREAM.PURGE.S", r#"{"seq":-1}"#, "bad request"),
+    (
+        "STREAM.PURGE.S",
+        r#"{"seq":18446744073709551615}"#,
+        "purge S all below 18446744073709551615",
+    ),
+    (
+        "STREAM.PURGE.S",
+        r#"{"seq":18446744073709551616}"#,
+        "bad request",
+    ),
+    ("STREAM.PURGE.S", r#"{"seq":7.0}"#, "bad request"),
     ("STREAM.PURGE.S", r#"{"keep":1}"#, "bad request"),
     ("STREAM.PURGE.S", r#"{"keep":0.0}"#, "bad request"),
     ("STREAM.PURGE.S", r#"{"keep":-0}"#, "bad request"),
@@ -91,6 +102,12 @@ const ROWS: [(&str, &str, &str); 74] = [
         r#"{"seq":18446744073709551615}"#,
         "get S 18446744073709551615",
     ),
+    (
+        "STREAM.MSG.GET.S",
+        r#"{"seq":18446744073709551616}"#,
+        "bad request",
+    ),
+    ("STREAM.MSG.GET.S", r#"{"seq":1e0}"#, "bad request"),
     ("STREAM.MSG.GET.S", r#"{"seq":-1}"#, "bad request"),
     ("STREAM.MSG.GET.S", r#"{"seq":1.5}"#, "bad request"),
     (
@@ -116,6 +133,18 @@ const ROWS: [(&str, &str, &str); 74] = [
         r#"{"seq":1,"no_erase":"yes"}"#,
         "delete S 1",
     ),
+    ("STREAM.MSG.DELETE.S", r#"{"seq":0}"#, "delete S 0"),
+    (
+        "STREAM.MSG.DELETE.S",
+        r#"{"seq":18446744073709551615}"#,
+        "delete S 18446744073709551615",
+    ),
+    (
+        "STREAM.MSG.DELETE.S",
+        r#"{"seq":18446744073709551616}"#,
+        "bad request",
+    ),
+    ("STREAM.MSG.DELETE.S", r#"{"seq":1.0}"#, "bad request"),
     ("STREAM.MSG.DELETE.S", r#"{"no_erase":true}"#, "bad request"),
     ("STREAM.MSG.DELETE.S", r#"{"seq":true}"#, "bad request"),
     // Of two members of one name the last counts.
@@ -143,6 +172,11 @@ const ROWS: [(&str, &str, &str); 74] = [
         "STREAM.CREATE.S",
         r#"{"name":"S","max_msgs":1.5}"#,
         "bad max_msgs",
+    ),
+    (
+        "STREAM.UPDATE.S",
+        r#"{"name":"S","max_age":1e9}"#,
+        "bad max_age",
     ),
     (
         "STREAM.CREATE.S",

@@ -2,7 +2,7 @@ use crate::told::told;
 use std::test::Fail;
 
 /// Members beside the name `S`, and the first wrong one.
-const MEMBERS: [(&str, &str); 74] = [
+const MEMBERS: [(&str, &str); 92] = [
     // Subjects.
     (r#""subjects":null"#, "subjects"),
     (r#""subjects":"a""#, "subjects"),
@@ -33,6 +33,34 @@ const MEMBERS: [(&str, &str); 74] = [
     (r#""discard":null"#, "discard"),
     (r#""duplicate_window":-1"#, "duplicate_window"),
     (r#""max_age":5,"duplicate_window":6"#, "duplicate_window"),
+    // Each limit's end, and one more; a fraction and an exponent at each number.
+    (r#""max_bytes":9223372036854775808"#, "max_bytes"),
+    (r#""max_bytes":-2"#, "max_bytes"),
+    (r#""max_bytes":0.5"#, "max_bytes"),
+    (r#""max_bytes":1e0"#, "max_bytes"),
+    (
+        r#""max_msgs_per_subject":9223372036854775808"#,
+        "max_msgs_per_subject",
+    ),
+    (r#""max_msgs_per_subject":-2"#, "max_msgs_per_subject"),
+    (r#""max_msgs_per_subject":1.0"#, "max_msgs_per_subject"),
+    (r#""max_msgs_per_subject":1E2"#, "max_msgs_per_subject"),
+    (r#""max_msg_size":9223372036854775808"#, "max_msg_size"),
+    (r#""max_msg_size":-2"#, "max_msg_size"),
+    (r#""max_msg_size":1e-1"#, "max_msg_size"),
+    (r#""max_age":1.0"#, "max_age"),
+    (r#""max_age":1e9"#, "max_age"),
+    (r#""num_replicas":1e0"#, "num_replicas"),
+    (
+        r#""duplicate_window":18446744073709551616"#,
+        "duplicate_window",
+    ),
+    (r#""duplicate_window":1.0"#, "duplicate_window"),
+    (r#""duplicate_window":1e9"#, "duplicate_window"),
+    (
+        r#""mirror":{"name":"O","opt_start_seq":1e0}"#,
+        "opt_start_seq",
+    ),
     // Mirrors and origins.
     (r#""mirror":null"#, "mirror"),
     (r#""mirror":"O""#, "mirror"),

@@ -33,11 +33,19 @@ fn what_is_not_set_says_nothing(rt: HostRuntime) -> Result<(), Fail> {
 }
 
 /// Members beside the name `S`, and what is written between `{` and `}` of what is read.
-const ROWS: [(&str, &str); 9] = [
+const ROWS: [(&str, &str); 11] = [
     // Each limit at its end, and a window that is as long as the age.
     (
         r#""max_msgs":9223372036854775807,"max_bytes":9223372036854775807,"max_msgs_per_subject":1,"max_msg_size":9223372036854775807,"max_age":18446744073709551615,"discard":"new","duplicate_window":18446744073709551615"#,
         r#""discard":"new","duplicate_window":18446744073709551615,"max_age":18446744073709551615,"max_bytes":9223372036854775807,"max_msg_size":9223372036854775807,"max_msgs":9223372036854775807,"max_msgs_per_subject":1,"name":"S","num_replicas":1,"retention":"limits","storage":"file","subjects":["S"]"#,
+    ),
+    (
+        r#""max_msgs_per_subject":9223372036854775807"#,
+        r#""discard":"old","duplicate_window":120000000000,"max_age":0,"max_bytes":-1,"max_msg_size":-1,"max_msgs":-1,"max_msgs_per_subject":9223372036854775807,"name":"S","num_replicas":1,"retention":"limits","storage":"file","subjects":["S"]"#,
+    ),
+    (
+        r#""max_msgs":1,"max_bytes":1,"max_msg_size":1,"max_age":1,"num_replicas":1,"duplicate_window":1"#,
+        r#""discard":"old","duplicate_window":1,"max_age":1,"max_bytes":1,"max_msg_size":1,"max_msgs":1,"max_msgs_per_subject":-1,"name":"S","num_replicas":1,"retention":"limits","storage":"file","subjects":["S"]"#,
     ),
     // Without a window an age of less than two minutes is one.
     (

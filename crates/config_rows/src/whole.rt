@@ -33,7 +33,7 @@ fn what_is_not_set_says_nothing(rt: HostRuntime) -> Result<(), Fail> {
 }
 
 /// Members beside the name `S`, and what is written between `{` and `}` of what is read.
-const ROWS: [(&str, &str); 11] = [
+const ROWS: [(&str, &str); 12] = [
     // Each limit at its end, and a window that is as long as the age.
     (
         r#""max_msgs":9223372036854775807,"max_bytes":9223372036854775807,"max_msgs_per_subject":1,"max_msg_size":9223372036854775807,"max_age":18446744073709551615,"discard":"new","duplicate_window":18446744073709551615"#,
@@ -73,6 +73,10 @@ const ROWS: [(&str, &str); 11] = [
     (
         r#""mirror":{"name":"O","opt_start_time":"1970-01-01T01:00:00+01:00"}"#,
         r#""discard":"old","duplicate_window":120000000000,"max_age":0,"max_bytes":-1,"max_msg_size":-1,"max_msgs":-1,"max_msgs_per_subject":-1,"mirror":{"name":"O","opt_start_time":"1970-01-01T00:00:00.000000000Z"},"name":"S","num_replicas":1,"retention":"limits","storage":"file","subjects":[]"#,
+    ),
+    (
+        r#""mirror":{"name":"O","opt_start_seq":9223372036854775807}"#,
+        r#""discard":"old","duplicate_window":120000000000,"max_age":0,"max_bytes":-1,"max_msg_size":-1,"max_msgs":-1,"max_msgs_per_subject":-1,"mirror":{"name":"O","opt_start_seq":9223372036854775807},"name":"S","num_replicas":1,"retention":"limits","storage":"file","subjects":[]"#,
     ),
     // Sources, with subjects and a transform of the stream's own.
     (

@@ -1,6 +1,6 @@
 -- The faults of an area, told by the reading of its bodies.
-use Rattle.std.proofs.Common.{◌≡◌, ◌≢◌, ⊎_elim, inr, ℕ, ◌&&◌, ◌||◌, not, nat_lt, List, [], ◌∷◌, ◌++◌, take, map, refl, sym, ◌∙◌, ap, subst, append_assoc, append-nil}
-use Rattle.std.specs.Prelude.{zero, suc, Bool, true, false, Some, Result, Ok, Err, if◌then◌else◌, slice_get}
+use Rattle.std.proofs.Common.{◌≡◌, ◌≢◌, ⊎_elim, inr, ℕ, List, [], ◌∷◌, ◌++◌, take, map, refl, sym, ◌∙◌, ap, subst, append_assoc, append-nil}
+use Rattle.std.specs.Prelude.{zero, suc, Bool, true, false, Some, Ok, Err, if◌then◌else◌, slice_get}
 use Rattle.gate_journal.specs.Areas.{AreaState, end_of}
 use Rattle.gate_journal.specs.declared.area.Ending.{Ending}
 use Rattle.gate_journal.specs.declared.area.Ending.TheVariants.{Closed, Missing, Unreadable}
@@ -13,7 +13,7 @@ use Rattle.record_log.specs.declared.fault.StoreFault.TheVariants.{ReadFault, Ba
 use Rattle.log_replay.specs.declared.replay.Replay.{Replay}
 use Rattle.shard_machine.specs.Legal.{IsLogOf, IsNoNext, MayFollow, MayAllFollow}
 use Rattle.log_replay.specs.Replays.{IsReplayOf}
-use Rattle.record_log.specs.Stores.{LacksGate, HasBadBody, EndsWithBadLength, HasBadGate, HasNo, IsWhole, OneCounts, is_passed, bodies_of}
+use Rattle.record_log.specs.Stores.{LacksGate, HasBadBody, EndsWithBadLength, HasBadGate, HasNo, IsWhole, OneCounts, is_passed}
 use Rattle.record_log.specs.Reads.{ReadsAreas, ReadsLog}
 
 -- a list around one of its items

@@ -1,13 +1,14 @@
 -- What the areas of two disks say of the log for which they stand.
-use Rattle.std.proofs.Common.{◌≡◌, ◌⊎◌, inl, inr, ℕ, ◌≤◌, ◌<◌, ◌+◌, true, false, ◌&&◌, ◌||◌, not, nat_lt, List, [], ◌∷◌, ◌++◌, length, refl, sym, ◌∙◌, ap, subst, arith, length-append}
-use Rattle.std.specs.Prelude.{Bool, Some, if◌then◌else◌}
+use Rattle.std.proofs.Common.{◌≡◌, ℕ, ◌≤◌, true, false, List, [], ◌∷◌, ◌++◌, length, refl, sym, ap, subst, arith, length-append}
+use Rattle.std.specs.Prelude.{Bool}
 use Rattle.std.proofs.lemmas.Bool.Decides.{nat_tests}
 use Rattle.gate_journal.specs.Areas.{head, blocks, max_area, AreaState, IsArea, Holds}
+use Rattle.gate_journal.specs.Journals.{new_area}
 use Rattle.gate_journal.specs.declared.area.Ending.TheVariants.{Closed}
 use Rattle.gate_journal.proofs.Unique.{one_held}
 use Rattle.record_codec.specs.declared.records.Rec.{Rec}
 use Rattle.shard_machine.specs.Legal.{IsLogOf}
-use Rattle.record_log.specs.Stores.{StoreHolds, AreShort, IsWhole, OneCounts, is_passed, bodies_of}
+use Rattle.record_log.specs.Stores.{IsWhole, OneCounts, is_passed, bodies_of}
 use Rattle.record_log.specs.Standing.{as_loaded, StandIn}
 use Rattle.record_log.specs.Serving.{IsBehind}
 
@@ -32,6 +33,11 @@ held_whole g bs c a = record {
 pub loaded_held : (counts : Bool) (x : AreaState) (c : List ℕ) → Holds x c → as_loaded counts c ≡ c
 loaded_held counts x [] h = absurd (omega (arith, h.long))
 loaded_held counts x (b ∷ c) h = refl
+
+-- a new area is read as it is
+pub new_loaded : (counts : Bool) → as_loaded counts (new_area counts) ≡ new_area counts
+new_loaded true = refl
+new_loaded false = refl
 
 -- what is taken where the other area is behind
 pub main_taken : (x y : AreaState) → x.counts ≡ true → IsBehind false x.generation y → is_passed x y ≡ false

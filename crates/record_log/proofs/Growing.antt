@@ -1,5 +1,5 @@
 -- For which logs two disks stand as the area of one of them gets a body.
-use Rattle.std.proofs.Common.{◌≡◌, ◌⊎◌, inl, inr, ⊎_elim, ℕ, ◌≤◌, true, false, List, [], ◌∷◌, ◌++◌, length, refl, sym, ◌∙◌, ap, subst, map}
+use Rattle.std.proofs.Common.{◌≡◌, ◌⊎◌, inl, inr, ⊎_elim, ℕ, ◌≤◌, true, false, List, [], ◌∷◌, ◌++◌, length, refl, sym, subst}
 use Rattle.std.specs.Prelude.{Bool, Ok, if◌then◌else◌}
 use Rattle.std.proofs.lemmas.List.{map-append}
 use Rattle.gate_journal.specs.Areas.{max_area, AreaState, IsArea, Holds}
@@ -7,8 +7,8 @@ use Rattle.record_codec.specs.declared.records.Rec.{Rec}
 use Rattle.record_codec.specs.Reading.{reading}
 use Rattle.shard_machine.specs.Legal.{IsLogOf, MayFollow}
 use Rattle.shard_machine.proofs.LogSteps.{all_follow-snoc}
-use Rattle.record_log.specs.Stores.{IsWhole, is_passed, bodies_of}
-use Rattle.record_log.specs.Standing.{as_loaded, StandIn, StandFor}
+use Rattle.record_log.specs.Stores.{is_passed, bodies_of}
+use Rattle.record_log.specs.Standing.{StandIn, StandFor}
 use Rattle.record_log.specs.Serving.{IsBehind}
 use Rattle.record_log.proofs.Areas.{whole_of, held_whole, main_taken, spare_taken, stand_main, stand_spare, main_is, spare_is}
 

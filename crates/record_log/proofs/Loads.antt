@@ -1,10 +1,10 @@
 -- For which log two disks stand that were loaded.
-use Rattle.std.proofs.Common.{◌≡◌, ◌≢◌, ◌⊎◌, inl, inr, ⊎_elim, ℕ, ◌≤◌, ◌<◌, ◌+◌, true, false, List, [], ◌∷◌, ◌++◌, length, map, refl, sym, ◌∙◌, ap, subst, arith, length-append}
+use Rattle.std.proofs.Common.{◌≡◌, inl, inr, ⊎_elim, ℕ, ◌≤◌, ◌+◌, true, false, List, [], ◌∷◌, ◌++◌, length, map, refl, sym, ◌∙◌, ap, subst, arith, length-append}
 use Rattle.std.specs.Prelude.{Bool, Option, None, Result, Ok, Err, Some, IfOk, IfErr, if◌then◌else◌}
 use Rattle.std.proofs.lemmas.Bool.Decides.{nat_tests}
 use Rattle.leaf_edges.specs.Disks.{Only}
 use Rattle.gate_journal.specs.Areas.{head, block, blocks, end_of, max_area, AreaState, IsArea, Holds, EndsIn}
-use Rattle.gate_journal.specs.Journals.{JournalState, journal_of}
+use Rattle.gate_journal.specs.Journals.{JournalState, journal_of, new_area}
 use Rattle.gate_journal.specs.declared.area.Ending.{Ending}
 use Rattle.gate_journal.specs.declared.area.Ending.TheVariants.{Closed}
 use Rattle.gate_journal.proofs.Unique.{one_held, held_headed}
@@ -14,14 +14,14 @@ use Rattle.shard_machine.specs.Legal.{IsLogOf}
 use Rattle.shard_machine.specs.Steps.{end_after}
 use Rattle.record_log.specs.declared.opening.Loaded.{Loaded}
 use Rattle.record_log.specs.Stores.{IsWhole, OneCounts, is_passed, bodies_of}
-use Rattle.record_log.specs.Standing.{as_loaded, StandIn, StandFor, EachStandsFor, IsOneOf}
+use Rattle.record_log.specs.Standing.{as_loaded, StandIn, StandFor, IsOneOf, IsUntorn}
 use Rattle.record_log.specs.Serving.{IsBehind, IsServed}
 use Rattle.record_log.specs.Loading.{OpensArea, OpensAreas, OpensBoth, AreLoaded}
 use Rattle.record_log.specs.Opening.{FailsBy}
 use Rattle.record_log.specs.declared.fault.OpenFault.{OpenFault}
 use Rattle.record_log.specs.declared.fault.OpenFault.TheVariants.{ReadFault, SyncFault, BadJournal, TooLong, NoMemory}
 use Rattle.record_log.specs.declared.fault.Part.TheVariants.{Main, Spare}
-use Rattle.record_log.proofs.Areas.{loaded_held, stand_main}
+use Rattle.record_log.proofs.Areas.{loaded_held, new_loaded, stand_main}
 
 -- an area that counts and is whole
 pub area_of : (x : AreaState) (c : List ℕ) → Holds x c → x.ending ≡ Closed → x.counts ≡ true → IsArea true x.generation x.bodies c
@@ -142,6 +142,12 @@ pub record Known {D : Type 0} (seen : D → List ℕ) (images : D → List ℕ �
   pub spare_short : length (as_loaded false (seen spare)) ≤ max_area
   pub spare_only : Only (as_loaded false (seen spare)) (images spare')
 
+-- a disk that was empty holds the new area alone
+untorn_of : {D : Type 0} (seen : D → List ℕ) (images : D → List ℕ → Type 0) (counts : Bool) (old new : D) → Only (as_loaded counts (seen old)) (images new) → IsUntorn seen images counts old new
+untorn_of seen images counts old new only c now torn =
+    let is : c ≡ new_area counts = only c now ∙ ap (as_loaded counts) torn.0 in
+    torn.1 (ap (as_loaded counts) is ∙ new_loaded counts)
+
 module _ {D : Type 0} (tells : Type 0) (seen : D → List ℕ) (images : D → List ℕ → Type 0) (seen_is : tells → (d : D) → images d (seen d)) (main spare main' spare' : D) where
   pub loaded_areas : (x y : AreaState) (found : Loaded) → OpensAreas x y (Ok found) → (tells → Known seen images main spare main' spare' x y) → AreLoaded tells seen images main spare main' spare' found
   loaded_areas x y found o known = record {
@@ -161,6 +167,7 @@ module _ {D : Type 0} (tells : Type 0) (seen : D → List ℕ) (images : D → L
         let stand = stand_main o.4 a' b' x y k.holds k.short (subst (λ (c : List ℕ). Holds y c) read k.spare_holds) (subst (λ (c : List ℕ). length c ≤ max_area) read k.spare_short) o.0 o.1 o.2 o.5 in
         inl (subst (λ (c : List ℕ). StandIn o.4 c b) (sym (k.only a ia)) (subst (λ (c : List ℕ). StandIn o.4 a' c) (sym (k.spare_only b ib)) stand));
     among = λ tells logs each. let k = known tells in one_of (seen main) (seen spare) o.4 x y k.holds k.spare_holds o.5 logs (each (seen main) (seen spare) (seen_is tells main) (seen_is tells spare));
+    untorn = λ tells. let k = known tells in (untorn_of seen images true main main' k.only, untorn_of seen images false spare spare' k.spare_only);
     served = λ tells. let k = known tells in served_of images main' spare' (as_loaded true (seen main)) (as_loaded false (seen spare)) x y k.only k.spare_only k.holds k.short k.spare_holds k.spare_short o.0 o.1 o.2 found.on_spare o.3 found.journal o.8;
   }
 

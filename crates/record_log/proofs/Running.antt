@@ -1,16 +1,16 @@
 -- For which logs two disks stand at each moment of an append.
-use Rattle.std.proofs.Common.{◌≡◌, ◌⊎◌, inl, inr, ⊎_elim, ℕ, ◌≤◌, ◌+◌, true, false, List, [], ◌∷◌, ◌++◌, length, refl, sym, subst, arith}
+use Rattle.std.proofs.Common.{◌≡◌, ◌⊎◌, inl, inr, ⊎_elim, ℕ, ◌≤◌, true, false, List, [], ◌∷◌, ◌++◌, length, sym, subst, arith}
 use Rattle.std.specs.Prelude.{Bool, Ok}
 use Rattle.leaf_edges.specs.Disks.{LeavesOnly}
-use Rattle.gate_journal.specs.Areas.{max_area, AreaState, IsArea, Holds}
+use Rattle.gate_journal.specs.Areas.{max_area, IsArea}
 use Rattle.gate_journal.specs.Journals.{IsBeforeOrAfter}
 use Rattle.record_codec.specs.declared.records.Rec.{Rec}
 use Rattle.record_codec.specs.Reading.{reading}
 use Rattle.shard_machine.specs.Legal.{IsLogOf, MayFollow}
 use Rattle.record_log.specs.LogStates.{in_use}
 use Rattle.record_log.specs.Standing.{StandIn, StandFor, EachStandsFor, SinceStandFor}
-use Rattle.record_log.specs.Serving.{IsBehind, IsPassedOver, IsFormatted}
-use Rattle.record_log.proofs.Areas.{whole_of, held_whole}
+use Rattle.record_log.specs.Serving.{IsPassedOver, IsFormatted}
+use Rattle.record_log.proofs.Areas.{held_whole}
 use Rattle.record_log.proofs.Growing.{log_of-push, lifted, main_grows, spare_grows, main_stands, spare_stands, main_log, spare_log}
 
 -- two disks that stand for one log
@@ -19,6 +19,29 @@ stand_alone log a b s = ⊎_elim (λ (t : StandIn log a b). t) absurd s
 
 both_same : {A : Type 0} → A ⊎ A → A
 both_same {A} e = ⊎_elim (λ (t : A). t) (λ (t : A). t) e
+
+-- at each moment two disks stand for one of the logs, but for pairs of which one is set apart
+abbrev pub SinceBut : {D : Type 0} → (D → ℕ → List ℕ → Type 0) → ℕ → ℕ → D → D → (List ℕ → Type 0) → (List ℕ → Type 0) → List (List Rec) → Type 0
+SinceBut left_since t u main spare P Q logs = (a b : List ℕ) → left_since main t a → left_since spare u b → StandFor a b logs ⊎ (P a ⊎ Q b)
+
+beside : (a b : List ℕ) (P Q : List ℕ → Type 0) (log : List Rec) (logs : List (List Rec)) → StandFor a b logs ⊎ (P a ⊎ Q b) → StandFor a b (log ∷ logs) ⊎ (P a ⊎ Q b)
+beside a b P Q log logs (inl stood) = inl (inr stood)
+beside a b P Q log logs (inr apart) = inr apart
+
+apart_main : (s a b : List ℕ) (P Q : List ℕ → Type 0) (logs logs' : List (List Rec)) → (P s → ⊥) → (StandFor s b logs → StandFor a b logs') → StandFor s b logs ⊎ (P s ⊎ Q b) → StandFor a b logs' ⊎ (P a ⊎ Q b)
+apart_main s a b P Q logs logs' apart grows (inl stood) = inl (grows stood)
+apart_main s a b P Q logs logs' apart grows (inr (inl p)) = absurd (apart p)
+apart_main s a b P Q logs logs' apart grows (inr (inr q)) = inr (inr q)
+
+apart_spare : (a s b : List ℕ) (P Q : List ℕ → Type 0) (logs logs' : List (List Rec)) → (Q s → ⊥) → (StandFor a s logs → StandFor a b logs') → StandFor a s logs ⊎ (P a ⊎ Q s) → StandFor a b logs' ⊎ (P a ⊎ Q b)
+apart_spare a s b P Q logs logs' apart grows (inl stood) = inl (grows stood)
+apart_spare a s b P Q logs logs' apart grows (inr (inl p)) = inr (inl p)
+apart_spare a s b P Q logs logs' apart grows (inr (inr q)) = absurd (apart q)
+
+none_apart : (a b : List ℕ) (logs : List (List Rec)) → StandFor a b logs ⊎ (⊥ ⊎ ⊥) → StandFor a b logs
+none_apart a b logs (inl stood) = stood
+none_apart a b logs (inr (inl p)) = absurd p
+none_apart a b logs (inr (inr q)) = absurd q
 
 module _ {D : Type 0} (moment : D → ℕ) (left_since : D → ℕ → List ℕ → Type 0) (seen : D → List ℕ) (images : D → List ℕ → Type 0)
     (seen_is : (d : D) → images d (seen d)) (counts_now : (d : D) (t : ℕ) (c : List ℕ) → t ≤ moment d → images d c → left_since d t c) (only_now : (d : D) (c : List ℕ) → left_since d (moment d) c → images d c)
@@ -46,46 +69,55 @@ module _ {D : Type 0} (moment : D → ℕ) (left_since : D → ℕ → List ℕ 
       inl (spare_stands g bs bs' w whole a (seen spare) b z.0 (each (seen spare) (seen_is spare)) (now b ib).0 (now b ib).1 z.1 z.2 log (stand_alone log a (seen spare) (stand a (seen spare) ia' (seen_is spare))))
 
   module _ (body : List ℕ) (log : List Rec) (it : Rec) (spells : reading body ≡ Ok it) (may : MayFollow log it) where
-    moments_main : (main spare main' : D) → ((c : List ℕ) → images main c → IsArea true g bs c) → IsLogOf log bs → LeavesOnly moment left_since main main' (IsBeforeOrAfter g bs body)
-        → (t u : ℕ) (logs : List (List Rec)) → t ≤ moment main → SinceStandFor left_since t u main spare logs → SinceStandFor left_since t u main' spare ((log ++ it ∷ []) ∷ logs)
-    moments_main main spare main' each is run t u logs le since = λ a b la lb.
-        let s = seen main in
-        let was = each s (seen_is main) in
-        let stood = since s b (counts_now main t s le (seen_is main)) lb in
-        let longer = log_of-push log bs it body is spells may in
-        ⊎_elim
-        (λ (old : left_since main t a). inr (since a b old lb))
-        (λ (p : IsBeforeOrAfter g bs body a).
-        ⊎_elim
-        (λ (here : IsArea true g bs a). lifted s b a b (log ++ it ∷ []) logs (λ k st. inr (both_same (main_grows g bs bs log is s b a was here p.0 k k (λ n. n) st))) stood)
-        (λ (here : IsArea true g (bs ++ body ∷ []) a). lifted s b a b (log ++ it ∷ []) logs (λ k st. main_grows g bs (bs ++ body ∷ []) (log ++ it ∷ []) longer s b a was here p.0 k (log ++ it ∷ []) (λ _. longer) st) stood)
-        p.1)
-        (run.before t a le la)
+    module _ (P Q : List ℕ → Type 0) where
+      moments_main : (main spare main' : D) → ((c : List ℕ) → images main c → IsArea true g bs c) → IsLogOf log bs → LeavesOnly moment left_since main main' (IsBeforeOrAfter g bs body) → (P (seen main) → ⊥)
+          → (t u : ℕ) (logs : List (List Rec)) → t ≤ moment main → SinceBut left_since t u main spare P Q logs → SinceBut left_since t u main' spare P Q ((log ++ it ∷ []) ∷ logs)
+      moments_main main spare main' each is run apart t u logs le since = λ a b la lb.
+          let s = seen main in
+          let was = each s (seen_is main) in
+          let longer = log_of-push log bs it body is spells may in
+          ⊎_elim
+          (λ (old : left_since main t a). beside a b P Q (log ++ it ∷ []) logs (since a b old lb))
+          (λ (p : IsBeforeOrAfter g bs body a). apart_main s a b P Q logs ((log ++ it ∷ []) ∷ logs) apart
+          (λ stood. ⊎_elim
+          (λ (here : IsArea true g bs a). lifted s b a b (log ++ it ∷ []) logs (λ k st. inr (both_same (main_grows g bs bs log is s b a was here p.0 k k (λ n. n) st))) stood)
+          (λ (here : IsArea true g (bs ++ body ∷ []) a). lifted s b a b (log ++ it ∷ []) logs (λ k st. main_grows g bs (bs ++ body ∷ []) (log ++ it ∷ []) longer s b a was here p.0 k (log ++ it ∷ []) (λ _. longer) st) stood)
+          p.1)
+          (since s b (counts_now main t s le (seen_is main)) lb))
+          (run.before t a le la)
 
-    moments_spare : (main spare spare' : D) → ((c : List ℕ) → images spare c → IsArea true g bs c) → IsLogOf log bs → LeavesOnly moment left_since spare spare' (IsBeforeOrAfter g bs body)
-        → (t u : ℕ) (logs : List (List Rec)) → u ≤ moment spare → SinceStandFor left_since t u main spare logs → SinceStandFor left_since t u main spare' ((log ++ it ∷ []) ∷ logs)
-    moments_spare main spare spare' each is run t u logs le since = λ a b la lb.
-        let s = seen spare in
-        let was = each s (seen_is spare) in
-        let stood = since a s la (counts_now spare u s le (seen_is spare)) in
-        let longer = log_of-push log bs it body is spells may in
-        ⊎_elim
-        (λ (old : left_since spare u b). inr (since a b la old))
-        (λ (p : IsBeforeOrAfter g bs body b).
-        ⊎_elim
-        (λ (here : IsArea true g bs b). lifted a s a b (log ++ it ∷ []) logs (λ k st. inr (both_same (spare_grows g bs bs log is a s b was here p.0 k k (λ n. n) st))) stood)
-        (λ (here : IsArea true g (bs ++ body ∷ []) b). lifted a s a b (log ++ it ∷ []) logs (λ k st. spare_grows g bs (bs ++ body ∷ []) (log ++ it ∷ []) longer a s b was here p.0 k (log ++ it ∷ []) (λ _. longer) st) stood)
-        p.1)
-        (run.before u b le lb)
+      moments_spare : (main spare spare' : D) → ((c : List ℕ) → images spare c → IsArea true g bs c) → IsLogOf log bs → LeavesOnly moment left_since spare spare' (IsBeforeOrAfter g bs body) → (Q (seen spare) → ⊥)
+          → (t u : ℕ) (logs : List (List Rec)) → u ≤ moment spare → SinceBut left_since t u main spare P Q logs → SinceBut left_since t u main spare' P Q ((log ++ it ∷ []) ∷ logs)
+      moments_spare main spare spare' each is run apart t u logs le since = λ a b la lb.
+          let s = seen spare in
+          let was = each s (seen_is spare) in
+          let longer = log_of-push log bs it body is spells may in
+          ⊎_elim
+          (λ (old : left_since spare u b). beside a b P Q (log ++ it ∷ []) logs (since a b la old))
+          (λ (p : IsBeforeOrAfter g bs body b). apart_spare a s b P Q logs ((log ++ it ∷ []) ∷ logs) apart
+          (λ stood. ⊎_elim
+          (λ (here : IsArea true g bs b). lifted a s a b (log ++ it ∷ []) logs (λ k st. inr (both_same (spare_grows g bs bs log is a s b was here p.0 k k (λ n. n) st))) stood)
+          (λ (here : IsArea true g (bs ++ body ∷ []) b). lifted a s a b (log ++ it ∷ []) logs (λ k st. spare_grows g bs (bs ++ body ∷ []) (log ++ it ∷ []) longer a s b was here p.0 k (log ++ it ∷ []) (λ _. longer) st) stood)
+          p.1)
+          (since a s la (counts_now spare u s le (seen_is spare))))
+          (run.before u b le lb)
+
+      -- each moment of an append, but for pairs of which one is set apart
+      pub moments_but : (o : Bool) (main spare main' spare' : D) → ((c : List ℕ) → images (in_use o main spare) c → IsArea true g bs c) → IsPassedOver images o g (in_use o spare main)
+          → LeavesOnly moment left_since (in_use o main spare) (in_use o main' spare') (IsBeforeOrAfter g bs body) → in_use o spare' main' ≡ in_use o spare main → EachStandsFor images main spare (log ∷ [])
+          → ((c : List ℕ) → images main c → P c → ⊥) → ((c : List ℕ) → images spare c → Q c → ⊥)
+          → (t u : ℕ) (logs : List (List Rec)) → t ≤ moment main → u ≤ moment spare → SinceBut left_since t u main spare P Q logs → SinceBut left_since t u main' spare' P Q ((log ++ it ∷ []) ∷ logs)
+      moments_but false main spare main' spare' each other run same stand apart apart' t u logs le le' since =
+          subst (λ (d : D). SinceBut left_since t u main' d P Q ((log ++ it ∷ []) ∷ logs)) (sym same) (moments_main main spare main' each (log_of_journal false main spare each other log stand) run (apart (seen main) (seen_is main)) t u logs le since)
+      moments_but true main spare main' spare' each other run same stand apart apart' t u logs le le' since =
+          subst (λ (d : D). SinceBut left_since t u d spare' P Q ((log ++ it ∷ []) ∷ logs)) (sym same) (moments_spare main spare spare' each (log_of_journal true main spare each other log stand) run (apart' (seen spare) (seen_is spare)) t u logs le' since)
 
     -- each moment of an append
     pub moments : (o : Bool) (main spare main' spare' : D) → ((c : List ℕ) → images (in_use o main spare) c → IsArea true g bs c) → IsPassedOver images o g (in_use o spare main)
         → LeavesOnly moment left_since (in_use o main spare) (in_use o main' spare') (IsBeforeOrAfter g bs body) → in_use o spare' main' ≡ in_use o spare main → EachStandsFor images main spare (log ∷ [])
         → (t u : ℕ) (logs : List (List Rec)) → t ≤ moment main → u ≤ moment spare → SinceStandFor left_since t u main spare logs → SinceStandFor left_since t u main' spare' ((log ++ it ∷ []) ∷ logs)
-    moments false main spare main' spare' each other run same stand t u logs le le' since =
-        subst (λ (d : D). SinceStandFor left_since t u main' d ((log ++ it ∷ []) ∷ logs)) (sym same) (moments_main main spare main' each (log_of_journal false main spare each other log stand) run t u logs le since)
-    moments true main spare main' spare' each other run same stand t u logs le le' since =
-        subst (λ (d : D). SinceStandFor left_since t u d spare' ((log ++ it ∷ []) ∷ logs)) (sym same) (moments_spare main spare spare' each (log_of_journal true main spare each other log stand) run t u logs le' since)
+    moments o main spare main' spare' each other run same stand t u logs le le' since = λ a b la lb.
+        none_apart a b ((log ++ it ∷ []) ∷ logs) (moments_but (λ _. ⊥) (λ _. ⊥) o main spare main' spare' each other run same stand (λ _ _ p. p) (λ _ _ p. p) t u logs le le' (λ x y lx ly. inl (since x y lx ly)) a b la lb)
 
   -- no moment falls
   pub no_earlier : (o : Bool) (main spare main' spare' : D) → moment (in_use o main spare) ≤ moment (in_use o main' spare') → in_use o spare' main' ≡ in_use o spare main → (moment main ≤ moment main') × (moment spare ≤ moment spare')

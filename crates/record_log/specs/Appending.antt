@@ -1,5 +1,5 @@
 -- What an append leaves of a log of records.
-use Rattle.std.specs.Prelude.{◌≡◌, ℕ, ◌+◌, Bool, true, false, List, length, Result, Ok, Err}
+use Rattle.std.specs.Prelude.{◌≡◌, ℕ, ◌+◌, true, false, List, length, Result, Ok, Err}
 use Rattle.gate_journal.specs.declared.fault.AppendFault.{AppendFault}
 use Rattle.gate_journal.specs.declared.fault.AppendFault.TheVariants.{DiskFault, NoMemory}
 use Rattle.record_log.specs.LogStates.{LogState}

@@ -7,3 +7,4 @@ pub mod Appending
 pub mod Opening
 pub mod Loading
 pub mod Fuses
+pub mod Laws

@@ -1,5 +1,5 @@
 -- What the parts of an opening answer, and what they do to a disk, within the crate.
-use Rattle.std.specs.Prelude.{◌≡◌, ◌⊎◌, ℕ, ◌≤◌, ◌<◌, ◌+◌, ◌-◌, ◌^◌, min, Bool, List, [], ◌∷◌, length, map, if◌then◌else◌, Option, None, Some, Result, Ok, Err}
+use Rattle.std.specs.Prelude.{◌≡◌, ◌⊎◌, ℕ, ◌≤◌, ◌<◌, ◌+◌, ◌-◌, ◌^◌, min, Bool, true, false, List, [], ◌∷◌, length, map, if◌then◌else◌, Option, None, Some, Result, Ok, Err}
 use Rattle.leaf_edges.specs.Causes.{RoseByOne}
 use Rattle.leaf_edges.specs.Disks.{Op}
 use Rattle.gate_journal.specs.Areas.{AreaState, Holds, IsHeadless, max_area}
@@ -19,7 +19,7 @@ use Rattle.record_log.specs.declared.fault.Part.{Part}
 use Rattle.record_log.specs.declared.fault.StoreFault.{StoreFault}
 use Rattle.record_log.specs.declared.fault.StoreFault.TheVariants as store
 use Rattle.record_log.specs.declared.opening.Loaded.{Loaded}
-use Rattle.record_log.specs.Standing.{StandIn, EachStandsFor, IsOneOf}
+use Rattle.record_log.specs.Standing.{StandIn, EachStandsFor, IsOneOf, IsUntorn}
 use Rattle.record_log.specs.Opening.{AddsAll, AddsFront}
 use Rattle.record_log.specs.Serving.{IsServed}
 use Rattle.record_log.specs.Stores.{OneCounts, IsWhole, IsBadPair, is_passed, bodies_of}
@@ -84,6 +84,7 @@ pub record AreLoaded {D : Type 0} (tells : Type 0) (seen : D → List ℕ) (imag
   pub stood : tells → StandIn log (seen main) (seen spare)
   pub stands : tells → EachStandsFor images main' spare' (log ∷ [])
   pub among : tells → (logs : List (List Rec)) → EachStandsFor images main spare logs → IsOneOf log logs
+  pub untorn : tells → IsUntorn seen images true main main' × IsUntorn seen images false spare spare'
   pub served : tells → IsServed images main' spare' found.on_spare found.journal
 
 -- a disk has taken the calls of an opening, and at a fault a front of them

@@ -1,5 +1,5 @@
 -- What the opening of a log of records answers, and what it does to the two disks.
-use Rattle.std.specs.Prelude.{◌≡◌, ◌⊎◌, ℕ, ◌≤◌, Bool, true, false, cond, List, [], ◌∷◌, ◌++◌, Some, Result, Ok, Err}
+use Rattle.std.specs.Prelude.{◌≡◌, ◌⊎◌, ℕ, Bool, true, false, cond, List, [], ◌∷◌, ◌++◌, Some, Result, Ok, Err, ⊤}
 use Rattle.leaf_edges.specs.Causes.{RoseByOne}
 use Rattle.leaf_edges.specs.Disks.{Op, wrote, synced}
 use Rattle.gate_journal.specs.Journals.{new_area}
@@ -12,7 +12,7 @@ use Rattle.record_log.specs.declared.fault.OpenFault.{OpenFault}
 use Rattle.record_log.specs.declared.fault.OpenFault.TheVariants.{ReadFault, SyncFault, BadJournal, TooLong, NoMemory}
 use Rattle.record_log.specs.declared.fault.Part.{Part}
 use Rattle.record_log.specs.Stores.{AreShort, IsBadStore, IsTooLong}
-use Rattle.record_log.specs.Standing.{as_loaded, StandIn, EachStandsFor, IsOneOf}
+use Rattle.record_log.specs.Standing.{as_loaded, StandIn, EachStandsFor, IsOneOf, IsUntorn}
 use Rattle.record_log.specs.LogStates.{LogState}
 
 -- the first fault of what two disks hold once each empty one is formatted; that a disk is too long comes before all else
@@ -22,6 +22,14 @@ FailsBy a b SyncFault = Unit {0}
 FailsBy a b (BadJournal place) = AreShort (as_loaded true a) (Some (as_loaded false b)) × (part : Part) × IsBadStore (as_loaded true a) (Some (as_loaded false b)) part place
 FailsBy a b (TooLong len) = (part : Part) × IsTooLong (as_loaded true a) (Some (as_loaded false b)) part len
 FailsBy a b NoMemory = Unit {0}
+
+-- a disk failed, or there was no memory; nothing is wrong with what the disks hold
+abbrev pub IsOfCalls : OpenFault → Type 0
+IsOfCalls ReadFault = ⊤
+IsOfCalls SyncFault = ⊤
+IsOfCalls (BadJournal place) = ⊥
+IsOfCalls (TooLong len) = ⊥
+IsOfCalls NoMemory = ⊤
 
 -- A log was opened: what was replayed is held of it, and the journal ends behind it. Where the disks tell what they hold,
 -- it is the one for which they stood, and whatever a crash leaves of them now stands for it.
@@ -35,6 +43,8 @@ pub record Opened {D : Type 0} (tells : Type 0) (seen : D → List ℕ) (images 
   pub stands : tells → EachStandsFor images l.main l.spare (log ∷ [])
   -- for whatever logs the disks stood, it is one of them
   pub among : tells → (logs : List (List Rec)) → EachStandsFor images main spare logs → IsOneOf log logs
+  -- an empty disk was formatted whole
+  pub untorn : tells → IsUntorn seen images true main l.main × IsUntorn seen images false spare l.spare
 
 -- an opening that gives the disks back, without them
 abbrev pub fault_alone : {L D : Type 0} → Result L (OpenFault × D × D) → Result L OpenFault

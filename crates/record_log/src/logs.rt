@@ -7,9 +7,9 @@ ghost use Rattle.record_codec.specs.declared.records.Rec.{Rec as Record};
 ghost use Rattle.record_codec.specs.Reading.{reading};
 ghost use Rattle.shard_machine.specs.Legal.{MayFollow};
 ghost use Rattle.record_log.specs.LogStates.{in_use, counted, uncounted};
-ghost use Rattle.record_log.specs.Standing.{EachStandsFor, SinceStandFor, SinceStandOrTorn};
+ghost use Rattle.record_log.specs.Standing.{EachStandsFor, SinceStandFor, SinceStandOrTorn, IsUntorn};
 ghost use Rattle.record_log.specs.Appending.{Extends, IsShut};
-ghost use Rattle.record_log.specs.Opening.{Opened, FailsBy, OpenCauses, OpenDoes, Tallies, OnBoth, fault_alone};
+ghost use Rattle.record_log.specs.Opening.{Opened, FailsBy, IsOfCalls, OpenCauses, OpenDoes, Tallies, OnBoth, fault_alone};
 ghost use Rattle.record_log.specs.Fuses.{fused};
 
 use crate::opening::{Loaded, load_disks, tallied};
@@ -99,8 +99,10 @@ impl<D: Disk> RecordLog<D> {
         ensures opened { IfOk result (λ found. Opened D.tells D.seen D.images main spare found.1 found.0) }
         ensures counts { IfOk result (λ found. found.0.faults ≡ 0) }
         ensures fault { D.tells → IfErr result (λ failed. FailsBy (D.seen main) (D.seen spare) failed.0) }
-        // Whatever logs the disks stood for, they stand for at each moment, but for what a crash leaves of
-        // an empty disk that is formatted.
+        // Disks that stood for a log aren't refused for what they hold.
+        ensures stood { (logs : Items (Items Record)) → D.tells → EachStandsFor D.images main spare logs → IfErr result (λ failed. IsOfCalls failed.0) }
+        // Whatever logs the disks stood for, they stand for at each moment, but for a torn write of the new
+        // area on a disk that was empty.
         ensures any_moment { (t u : ℕ) (logs : Items (Items Record)) → D.tells → t ≤ D.moment main → u ≤ D.moment spare →
             SinceStandFor D.left_since t u main spare logs → OnBoth (SinceStandOrTorn D.seen D.images D.left_since t u main spare logs) result }
         ensures later { D.tells → OnBoth (λ m s. (D.moment main ≤ D.moment m) × (D.moment spare ≤ D.moment s)) result }
@@ -135,6 +137,8 @@ impl<D: Disk> RecordLog<D> {
         ensures opened { IfOk result (λ replay. Opened D.tells D.seen D.images self.old.main self.old.spare replay self.new) }
         ensures shut { OnErr result (IsShut self.new) }
         ensures fault { D.tells → IfErr result (FailsBy (D.seen self.old.main) (D.seen self.old.spare)) }
+        // Disks that stood for a log aren't refused for what they hold.
+        ensures stood { (logs : Items (Items Record)) → D.tells → EachStandsFor D.images self.old.main self.old.spare logs → IfErr result IsOfCalls }
         // Whatever logs the disks stood for, they stand for at each moment, and now.
         ensures any_moment { (t u : ℕ) (logs : Items (Items Record)) → D.tells → t ≤ D.moment self.old.main → u ≤ D.moment self.old.spare →
             SinceStandFor D.left_since t u self.old.main self.old.spare logs → SinceStandFor D.left_since t u self.new.main self.new.spare logs }
@@ -177,6 +181,12 @@ impl<D: Disk> RecordLog<D> {
         ensures any_moment { (t u : ℕ) (log : Items Record) (it : Record) (logs : Items (Items Record)) → D.tells → t ≤ D.moment self.old.main → u ≤ D.moment self.old.spare →
             EachStandsFor D.images self.old.main self.old.spare (log ∷ []) → reading body.now ≡ Ok it → MayFollow log it →
             SinceStandFor D.left_since t u self.old.main self.old.spare logs → SinceStandFor D.left_since t u self.new.main self.new.spare ((log ++ it ∷ []) ∷ logs) }
+        // The same since the opening of two disks began, but for a torn write of the new area on one that was
+        // empty then.
+        ensures since_opened { (t u : ℕ) (main spare : D) (log : Items Record) (it : Record) (logs : Items (Items Record)) → D.tells → t ≤ D.moment self.old.main → u ≤ D.moment self.old.spare →
+            EachStandsFor D.images self.old.main self.old.spare (log ∷ []) → reading body.now ≡ Ok it → MayFollow log it →
+            IsUntorn D.seen D.images true main self.old.main → IsUntorn D.seen D.images false spare self.old.spare →
+            SinceStandOrTorn D.seen D.images D.left_since t u main spare logs self.old.main self.old.spare → SinceStandOrTorn D.seen D.images D.left_since t u main spare ((log ++ it ∷ []) ∷ logs) self.new.main self.new.spare }
         ensures now { (log : Items Record) (it : Record) → D.tells → EachStandsFor D.images self.old.main self.old.spare (log ∷ []) → reading body.now ≡ Ok it → MayFollow log it →
             EachStandsFor D.images self.new.main self.new.spare ((log ++ it ∷ []) ∷ log ∷ []) }
         ensures ok { (log : Items Record) (it : Record) → D.tells → EachStandsFor D.images self.old.main self.old.spare (log ∷ []) → reading body.now ≡ Ok it → MayFollow log it →

@@ -72,6 +72,9 @@ module _ {D : Type 0} (l l' : LogState D) (streams : Replay) (before : List Rec)
   pub first-since : (left_since : D → ℕ → List ℕ → Type 0) (t u : ℕ) (logs : List (List Rec)) → SinceStandFor left_since t u l'.main l'.spare ((before ++ Boot n ∷ []) ∷ logs) → SinceStandFor left_since t u l'.main l'.spare (opened_log before ∷ logs)
   first-since left_since t u logs since = subst (λ (x : List Rec). SinceStandFor left_since t u l'.main l'.spare (x ∷ logs)) log-is since
 
+  pub first-apart : (seen : D → List ℕ) (images : D → List ℕ → Type 0) (left_since : D → ℕ → List ℕ → Type 0) (t u : ℕ) (main spare : D) (logs : List (List Rec)) → SinceStandOrTorn seen images left_since t u main spare ((before ++ Boot n ∷ []) ∷ logs) l'.main l'.spare → SinceStandOrTorn seen images left_since t u main spare (opened_log before ∷ logs) l'.main l'.spare
+  first-apart seen images left_since t u main spare logs since = subst (λ (x : List Rec). SinceStandOrTorn seen images left_since t u main spare (x ∷ logs) l'.main l'.spare) log-is since
+
   -- it has no room
   pub first-full : (e need len : ℕ) → has_opening before ≡ false → e ≡ l.end → need ≡ needed (Boot n) → len ≡ min (e + need) (2 ^ 64 - 1) → OpeningFails before (open_as.TooLong len)
   first-full e need len room end_is need_is len_is = (
@@ -111,6 +114,13 @@ since-more left_since t u main spare xs ys within since a b left right = stands-
 -- the log isn't touched
 pub since-still : {D : Type 0} (left_since : D → ℕ → List ℕ → Type 0) (t u : ℕ) (old new : LogState D) (log : List Rec) (logs : List (List Rec)) → new ≡ old → SinceStandFor left_since t u old.main old.spare logs → SinceStandFor left_since t u new.main new.spare (log ∷ logs)
 since-still left_since t u old new log logs same since = subst (λ (l : LogState _). SinceStandFor left_since t u l.main l.spare (log ∷ logs)) (sym same) (λ a b left right. inr (since a b left right))
+
+-- the same since two disks were opened
+pub apart-more : {D : Type 0} (seen : D → List ℕ) (images : D → List ℕ → Type 0) (left_since : D → ℕ → List ℕ → Type 0) (t u : ℕ) (main spare main' spare' : D) (xs ys : List (List Rec)) → Within xs ys → SinceStandOrTorn seen images left_since t u main spare xs main' spare' → SinceStandOrTorn seen images left_since t u main spare ys main' spare'
+apart-more seen images left_since t u main spare main' spare' xs ys within since a b left right = elim (since a b left right) [ inl stands ↦ inl (stands-within a b xs ys within stands) | inr torn ↦ inr torn ]
+
+pub apart-still : {D : Type 0} (seen : D → List ℕ) (images : D → List ℕ → Type 0) (left_since : D → ℕ → List ℕ → Type 0) (t u : ℕ) (main spare : D) (old new : LogState D) (log : List Rec) (logs : List (List Rec)) → new ≡ old → SinceStandOrTorn seen images left_since t u main spare logs old.main old.spare → SinceStandOrTorn seen images left_since t u main spare (log ∷ logs) new.main new.spare
+apart-still seen images left_since t u main spare old new log logs same since = subst (λ (l : LogState _). SinceStandOrTorn seen images left_since t u main spare (log ∷ logs) l.main l.spare) (sym same) (λ a b left right. elim (since a b left right) [ inl stands ↦ inl (inr stands) | inr torn ↦ inr torn ])
 
 opened-one : (log : List Rec) (logs : List (List Rec)) → IsOneOf log logs → IsOneOf (opened_log log) (opened_logs logs)
 opened-one log [] one = absurd one

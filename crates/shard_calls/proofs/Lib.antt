@@ -12,6 +12,5 @@ pub mod ShardAnswers
 pub mod ShardCalls
 pub mod ShardMoves
 pub mod Spelled
-pub mod Standings
 pub mod StepsBehind
 pub mod TableKinds

@@ -1,11 +1,9 @@
 -- A shard whose disks stand for a log is never told that they hold none, or are too long.
 use Rattle.record_codec.specs.declared.records.Rec.{Rec}
-use Rattle.record_log.specs.Opening.{FailsBy}
-use Rattle.record_log.specs.Standing.{StandFor, StandIn}
+use Rattle.record_log.specs.Opening.{IsOfCalls}
 use Rattle.record_log.specs.declared.fault.OpenFault.TheVariants as open_as
 use Rattle.record_log.specs.declared.fault.OpenFault.{OpenFault}
 use Rattle.shard_calls.proofs.CallSteps.{Replies}
-use Rattle.shard_calls.proofs.Standings.{no-bad-store, not-too-long}
 use Rattle.shard_calls.specs.Causes.{is_unread, is_unreadable}
 use Rattle.shard_calls.specs.Failing.{failure}
 use Rattle.shard_machine.specs.Steps.{Held, Refuses, StepTo, taken}
@@ -15,7 +13,7 @@ use Rattle.shard_machine.specs.declared.reply.Outcome.{Outcome}
 use Rattle.shard_machine.specs.declared.reply.ShardRefusal.TheVariants as refusal
 use Rattle.shard_machine.specs.declared.reply.ShardRefusal.{ShardRefusal}
 use Rattle.shard_machine.specs.declared.reply.ShardReply.{ShardReply}
-use Rattle.std.proofs.Common.{List, Option, [], arith, false, inl, inr, refl, subst, sym, true, ℕ, ◌==◌, ◌+◌, ◌∙◌, ◌∷◌, ◌≡◌}
+use Rattle.std.proofs.Common.{List, Option, arith, false, inl, inr, refl, subst, sym, true, ℕ, ◌==◌, ◌+◌, ◌∙◌, ◌≡◌}
 use Rattle.std.proofs.lemmas.Bool.Decides.{nat_tests}
 use Rattle.stream_fold.specs.declared.entry.Entry.{Entry}
 
@@ -57,19 +55,13 @@ step-readable outcome.Sent h c reply records new on s = refl
 step-readable (outcome.Heard decision) h c reply records new on s = refl
 step-readable (outcome.Refused why) h c reply records new on s = loaded-readable why h c s.doubted records new on s.refuses
 
--- two disks that stand for one of some logs stand for one log
-some-log : (a b : List ℕ) (logs : List (List Rec)) → StandFor a b logs → (log : List Rec) × StandIn log a b
-some-log a b [] s = absurd s
-some-log a b (log ∷ logs) (inl here) = (log, here)
-some-log a b (log ∷ logs) (inr there) = some-log a b logs there
-
--- what keeps such disks from being read
-pub open-readable : (a b : List ℕ) (logs : List (List Rec)) (fault : OpenFault) (doubted : Option Entry) → StandFor a b logs → FailsBy a b fault → is_unreadable (failure fault doubted).why ≡ false
-open-readable a b logs open_as.ReadFault doubted s f = refl
-open-readable a b logs open_as.SyncFault doubted s f = refl
-open-readable a b logs (open_as.BadJournal place) doubted s f = let one = some-log a b logs s in absurd (no-bad-store one.0 a b f.1 place one.1 f.2)
-open-readable a b logs (open_as.TooLong len) doubted s f = let one = some-log a b logs s in absurd (not-too-long one.0 a b f.0 len one.1 f.1)
-open-readable a b logs open_as.NoMemory doubted s f = refl
+-- what keeps disks from being read that stand for a log
+pub open-readable : (fault : OpenFault) (doubted : Option Entry) → IsOfCalls fault → is_unreadable (failure fault doubted).why ≡ false
+open-readable open_as.ReadFault doubted of_calls = refl
+open-readable open_as.SyncFault doubted of_calls = refl
+open-readable (open_as.BadJournal place) doubted of_calls = absurd of_calls
+open-readable (open_as.TooLong len) doubted of_calls = absurd of_calls
+open-readable open_as.NoMemory doubted of_calls = refl
 
 -- the reply of a refusal
 pub refused-readable : (c : ShardCall) (why : ShardRefusal) (doubted : Option Entry) (reply : ShardReply) → Replies c why doubted reply → is_unreadable why ≡ false → is_unread reply.outcome ≡ false

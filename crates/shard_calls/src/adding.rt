@@ -1,8 +1,8 @@
-ghost use Rattle.std.specs.Prelude.{◌≡◌, ◌≤◌, ◌+◌, ◌∷◌, ◌++◌, [], ℕ, true, List as Items, OnOk, IsErrOf};
+ghost use Rattle.std.specs.Prelude.{◌≡◌, ◌≤◌, ◌+◌, ◌∷◌, ◌++◌, [], ℕ, true, false, List as Items, OnOk, IsErrOf};
 ghost use Rattle.record_codec.specs.declared.records.Rec.{Rec as Record};
 ghost use Rattle.shard_machine.specs.Legal.{MayFollow};
 ghost use Rattle.record_log.specs.LogStates.{uncounted};
-ghost use Rattle.record_log.specs.Standing.{EachStandsFor, SinceStandFor};
+ghost use Rattle.record_log.specs.Standing.{EachStandsFor, SinceStandFor, SinceStandOrTorn, IsUntorn};
 ghost use Rattle.shard_calls.specs.Adding.{AddsAt, AddCauses, AddsCalls, EndsFor};
 
 use leaf_edges::Disk;
@@ -47,6 +47,10 @@ pub(crate) fn add<D: Disk>(
     ensures any_moment { (t u : ℕ) (before : Items Record) (logs : Items (Items Record)) → D.tells → t ≤ D.moment log.old.main → u ≤ D.moment log.old.spare →
         EachStandsFor D.images log.old.main log.old.spare (before ∷ []) → MayFollow before «record».now →
         SinceStandFor D.left_since t u log.old.main log.old.spare logs → SinceStandFor D.left_since t u log.new.main log.new.spare ((before ++ «record».now ∷ []) ∷ logs) }
+    ensures since_opened { (t u : ℕ) (main spare : D) (before : Items Record) (logs : Items (Items Record)) → D.tells → t ≤ D.moment log.old.main → u ≤ D.moment log.old.spare →
+        EachStandsFor D.images log.old.main log.old.spare (before ∷ []) → MayFollow before «record».now →
+        IsUntorn D.seen D.images true main log.old.main → IsUntorn D.seen D.images false spare log.old.spare →
+        SinceStandOrTorn D.seen D.images D.left_since t u main spare logs log.old.main log.old.spare → SinceStandOrTorn D.seen D.images D.left_since t u main spare ((before ++ «record».now ∷ []) ∷ logs) log.new.main log.new.spare }
     // Where it wasn't tried, or there was no memory, the log stays.
     ensures disks { (before : Items Record) → D.tells → EachStandsFor D.images log.old.main log.old.spare (before ∷ []) → MayFollow before «record».now →
         EachStandsFor D.images log.new.main log.new.spare (EndsFor before «record».now result) }
@@ -87,6 +91,10 @@ pub(crate) fn add_opening<D: Disk>(
     ensures any_moment { (t u : ℕ) (before : Items Record) (logs : Items (Items Record)) → D.tells → t ≤ D.moment log.old.main → u ≤ D.moment log.old.spare →
         EachStandsFor D.images log.old.main log.old.spare (before ∷ []) → MayFollow before (Record.Boot number) →
         SinceStandFor D.left_since t u log.old.main log.old.spare logs → SinceStandFor D.left_since t u log.new.main log.new.spare ((before ++ (Record.Boot number) ∷ []) ∷ logs) }
+    ensures since_opened { (t u : ℕ) (main spare : D) (before : Items Record) (logs : Items (Items Record)) → D.tells → t ≤ D.moment log.old.main → u ≤ D.moment log.old.spare →
+        EachStandsFor D.images log.old.main log.old.spare (before ∷ []) → MayFollow before (Record.Boot number) →
+        IsUntorn D.seen D.images true main log.old.main → IsUntorn D.seen D.images false spare log.old.spare →
+        SinceStandOrTorn D.seen D.images D.left_since t u main spare logs log.old.main log.old.spare → SinceStandOrTorn D.seen D.images D.left_since t u main spare ((before ++ (Record.Boot number) ∷ []) ∷ logs) log.new.main log.new.spare }
     // Where it wasn't tried, or there was no memory, the log stays.
     ensures disks { (before : Items Record) → D.tells → EachStandsFor D.images log.old.main log.old.spare (before ∷ []) → MayFollow before (Record.Boot number) →
         EachStandsFor D.images log.new.main log.new.spare (EndsFor before (Record.Boot number) result) }

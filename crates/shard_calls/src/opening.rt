@@ -1,8 +1,8 @@
 //! The first load of a shard.
-ghost use Rattle.std.specs.Prelude.{◌≡◌, ◌≢◌, ◌≤◌, ◌++◌, ◌∷◌, [], ℕ, List as Items, IfOk, IfErr, OnOk, true};
+ghost use Rattle.std.specs.Prelude.{◌≡◌, ◌≢◌, ◌≤◌, ◌++◌, ◌∷◌, [], ℕ, List as Items, IfOk, IfErr, OnOk, true, false};
 ghost use Rattle.record_codec.specs.declared.records.Rec.{Rec as Record};
 ghost use Rattle.record_log.specs.Opening.{OpenCauses, fault_alone};
-ghost use Rattle.record_log.specs.Standing.{EachStandsFor, SinceStandFor};
+ghost use Rattle.record_log.specs.Standing.{EachStandsFor, SinceStandFor, SinceStandOrTorn, IsUntorn};
 ghost use Rattle.shard_machine.specs.Legal.{IsLegal};
 ghost use Rattle.shard_machine.specs.Steps.{end_after};
 ghost use Rattle.shard_machine.specs.Views.{View};
@@ -33,6 +33,8 @@ pub(crate) fn load_log<D: Disk>(
     ensures fault { D.tells → IfErr result (λ failed. LoadFails (D.seen main) (D.seen spare) failed.0) }
     ensures any_moment { (t u : ℕ) (logs : Items (Items Record)) → D.tells → D.seen main ≢ [] → D.seen spare ≢ [] → t ≤ D.moment main → u ≤ D.moment spare →
         SinceStandFor D.left_since t u main spare logs → OnLog (λ m s. SinceStandFor D.left_since t u m s (logs ++ opened_logs logs)) result }
+    ensures from_empty { (t u : ℕ) (logs : Items (Items Record)) → D.tells → t ≤ D.moment main → u ≤ D.moment spare →
+        SinceStandFor D.left_since t u main spare logs → OnLog (SinceStandOrTorn D.seen D.images D.left_since t u main spare (logs ++ opened_logs logs)) result }
     ensures later { D.tells → OnLog (λ m s. (D.moment main ≤ D.moment m) × (D.moment spare ≤ D.moment s)) result }
     ensures calls { D.tells → OnLog (LoadDoes D.seen D.unsynced D.done main spare) result }
     ensures cause { OnLog (λ m s. OpenCauses D.faults main spare m s (fault_alone result)) result }
@@ -71,6 +73,10 @@ fn open_first<D: Disk>(
     ensures any_moment { (t u : ℕ) (before : Items Record) (logs : Items (Items Record)) → D.tells → t ≤ D.moment log.old.main → u ≤ D.moment log.old.spare →
         IsLegal before → IsReplayOf streams before → log.old.end ≡ end_after 17 before → EachStandsFor D.images log.old.main log.old.spare (before ∷ []) →
         SinceStandFor D.left_since t u log.old.main log.old.spare logs → SinceStandFor D.left_since t u log.new.main log.new.spare (opened_log before ∷ logs) }
+    ensures since_opened { (t u : ℕ) (main spare : D) (before : Items Record) (logs : Items (Items Record)) → D.tells → t ≤ D.moment log.old.main → u ≤ D.moment log.old.spare →
+        IsLegal before → IsReplayOf streams before → log.old.end ≡ end_after 17 before → EachStandsFor D.images log.old.main log.old.spare (before ∷ []) →
+        IsUntorn D.seen D.images true main log.old.main → IsUntorn D.seen D.images false spare log.old.spare →
+        SinceStandOrTorn D.seen D.images D.left_since t u main spare logs log.old.main log.old.spare → SinceStandOrTorn D.seen D.images D.left_since t u main spare (opened_log before ∷ logs) log.new.main log.new.spare }
     ensures later { D.tells → (D.moment log.old.main ≤ D.moment log.new.main) × (D.moment log.old.spare ≤ D.moment log.new.spare) }
     ensures counts { OnOk result (log.new.faults ≡ log.old.faults) }
     ensures calls { D.tells → AppendsAtMost D.done log.old log.new }

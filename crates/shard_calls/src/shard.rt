@@ -3,7 +3,7 @@ ghost use Rattle.mem_disk.specs.MemDisks.{DiskState};
 ghost use Rattle.record_codec.specs.declared.records.Rec.{Rec as Record};
 ghost use Rattle.record_log.specs.Fuses.{fused};
 ghost use Rattle.record_log.specs.Opening.{OpenCauses, fault_alone};
-ghost use Rattle.record_log.specs.Standing.{SinceStandFor};
+ghost use Rattle.record_log.specs.Standing.{SinceStandFor, SinceStandOrTorn};
 ghost use Rattle.shard_machine.specs.Images.{live_in};
 ghost use Rattle.shard_machine.specs.Steps.{Held, view_in};
 ghost use Rattle.shard_table.specs.Holding.{copy_seen, match_seen};
@@ -63,6 +63,9 @@ impl<D: Disk> Shard<D> {
         // opening, at each moment.
         ensures any_moment { (t u : ℕ) (logs : Items (Items Record)) → D.tells → D.seen disk ≢ [] → D.seen spare ≢ [] → t ≤ D.moment disk → u ≤ D.moment spare →
             SinceStandFor D.left_since t u disk spare logs → OnDisks (λ m s. SinceStandFor D.left_since t u m s (logs ++ opened_logs logs)) result }
+        // The same whatever the disks held, but for a torn write of the new area on a disk that was empty.
+        ensures from_empty { (t u : ℕ) (logs : Items (Items Record)) → D.tells → t ≤ D.moment disk → u ≤ D.moment spare →
+            SinceStandFor D.left_since t u disk spare logs → OnDisks (SinceStandOrTorn D.seen D.images D.left_since t u disk spare (logs ++ opened_logs logs)) result }
         ensures later { D.tells → OnDisks (λ m s. (D.moment disk ≤ D.moment m) × (D.moment spare ≤ D.moment s)) result }
         ensures calls { D.tells → OnDisks (LoadDoes D.seen D.unsynced D.done disk spare) result }
         ensures cause { OnDisks (λ m s. OpenCauses D.faults disk spare m s (fault_alone result)) result }

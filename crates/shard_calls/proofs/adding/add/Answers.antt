@@ -22,3 +22,12 @@ returns-in-Err-NoMemory-clause-any_moment g c t u before logs tells le le' stand
 
 pub returns-clause-any_moment : goal.returns-clause-any_moment
 returns-clause-any_moment g c t u before logs tells le le' stands may since = c.in-Err-DiskFault.ensures.any_moment t u before c.args.record.now logs tells le le' stands (ap reading c.as_slice.ensures ∙ c.in-Ok.ensures.again) may since
+
+pub returns-in-Ok-append-clause-since_opened : goal.returns-in-Ok-append-clause-since_opened
+returns-in-Ok-append-clause-since_opened g c t u main spare before logs tells le le' stands may untorn untorn' since = c.in-Ok-append.ensures.since_opened t u main spare before c.args.record.now logs tells le le' stands (ap reading c.as_slice.ensures ∙ c.in-Ok.ensures.again) may untorn untorn' since
+
+pub returns-in-Err-NoMemory-clause-since_opened : goal.returns-in-Err-NoMemory-clause-since_opened
+returns-in-Err-NoMemory-clause-since_opened g c t u main spare before logs tells le le' stands may untorn untorn' since = c.in-Err-NoMemory.ensures.since_opened t u main spare before c.args.record.now logs tells le le' stands (ap reading c.as_slice.ensures ∙ c.in-Ok.ensures.again) may untorn untorn' since
+
+pub returns-clause-since_opened : goal.returns-clause-since_opened
+returns-clause-since_opened g c t u main spare before logs tells le le' stands may untorn untorn' since = c.in-Err-DiskFault.ensures.since_opened t u main spare before c.args.record.now logs tells le le' stands (ap reading c.as_slice.ensures ∙ c.in-Ok.ensures.again) may untorn untorn' since

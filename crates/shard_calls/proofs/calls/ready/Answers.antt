@@ -144,10 +144,7 @@ returns-in_default-clause-stood g c h before tells keeps is = rw c.refusing.ensu
 
 pub returns-in-Err-clause-stood : goal.returns-in-Err-clause-stood
 returns-in-Err-clause-stood g c h before tells keeps is =
-    let main = c.args.log.now.main in
-    let spare = c.args.log.now.spare in
-    let stands = is.disks (g.D.Disk.seen main) (g.D.Disk.seen spare) (g.met.D.Disk.seen_is_image main tells) (g.met.D.Disk.seen_is_image spare tells) in
-    rw c.not_opened.ensures (open-readable (g.D.Disk.seen main) (g.D.Disk.seen spare) (with_doubt before h.doubt) c.in-Err.fault c.in-Ok.doubted stands (c.in-Err.ensures.fault tells))
+    rw c.not_opened.ensures (open-readable c.in-Err.fault c.in-Ok.doubted (c.in-Err.ensures.stood (with_doubt before h.doubt) tells is.disks))
 
 pub returns-in-Ok-reopen-clause-stood : goal.returns-in-Ok-reopen-clause-stood
 returns-in-Ok-reopen-clause-stood g c h before tells keeps is = c.begin.ensures.stood

@@ -1,8 +1,8 @@
 use Rattle.std.proofs.Common.{◌++◌, ◌∷◌, Ok, false, refl, sym, ap, subst, inl, arith}
-use Rattle.record_log.specs.Standing.{SinceStandFor}
+use Rattle.record_log.specs.Standing.{SinceStandFor, SinceStandOrTorn}
 use Rattle.shard_calls.specs.FirstLoads.{opened_log, opened_logs}
 use Rattle.shard_calls.proofs.Devices.{opens-front}
-use Rattle.shard_calls.proofs.FirstOpenings.{not-torn, since-more, within-left, within-opened}
+use Rattle.shard_calls.proofs.FirstOpenings.{apart-more, not-torn, since-more, within-left, within-opened}
 use Rattle.shard_calls.proofs.opening.load_log.Goals as goal
 
 pub returns-in-Ok-open_first-clause-loaded : goal.returns-in-Ok-open_first-clause-loaded
@@ -72,3 +72,29 @@ returns-in-Err-clause-calls g c tells = record {
   main_is = refl;
   spare_is = refl;
 }
+
+pub returns-in-Ok-open_first-clause-from_empty : goal.returns-in-Ok-open_first-clause-from_empty
+returns-in-Ok-open_first-clause-from_empty g c t u logs tells le le' since =
+    let was = c.in-Ok.ensures.opened in
+    let later = c.in-Ok.ensures.later tells in
+    let mid = c.in-Ok.ensures.any_moment t u logs tells le le' since in
+    let untorn = was.untorn tells in
+    let one = was.among tells logs (λ a b left right. since a b (g.met.D.Disk.counts_now c.args.main t a tells le left) (g.met.D.Disk.counts_now c.args.spare u b tells le' right)) in
+    apart-more g.D.Disk.seen g.D.Disk.images g.D.Disk.left_since t u c.args.main c.args.spare _ _ (opened_log was.log ∷ logs) (logs ++ opened_logs logs) (within-opened was.log logs one)
+    (c.in-Ok-open_first.ensures.since_opened t u c.args.main c.args.spare was.log logs tells (omega (arith, le, later.0)) (omega (arith, le', later.1)) was.legal was.replayed was.end (was.stands tells) untorn.0 untorn.1 mid)
+
+pub returns-in-Err-open_first-clause-from_empty : goal.returns-in-Err-open_first-clause-from_empty
+returns-in-Err-open_first-clause-from_empty g c t u logs tells le le' since =
+    let was = c.in-Ok.ensures.opened in
+    let later = c.in-Ok.ensures.later tells in
+    let mid = c.in-Ok.ensures.any_moment t u logs tells le le' since in
+    let untorn = was.untorn tells in
+    let one = was.among tells logs (λ a b left right. since a b (g.met.D.Disk.counts_now c.args.main t a tells le left) (g.met.D.Disk.counts_now c.args.spare u b tells le' right)) in
+    subst (λ (q : g.row.D.Denot × g.row.D.Denot). SinceStandOrTorn g.D.Disk.seen g.D.Disk.images g.D.Disk.left_since t u c.args.main c.args.spare (logs ++ opened_logs logs) q.0 q.1) (sym c.close-main.ensures)
+    (apart-more g.D.Disk.seen g.D.Disk.images g.D.Disk.left_since t u c.args.main c.args.spare _ _ (opened_log was.log ∷ logs) (logs ++ opened_logs logs) (within-opened was.log logs one)
+    (c.in-Err-open_first.ensures.since_opened t u c.args.main c.args.spare was.log logs tells (omega (arith, le, later.0)) (omega (arith, le', later.1)) was.legal was.replayed was.end (was.stands tells) untorn.0 untorn.1 mid))
+
+pub returns-in-Err-clause-from_empty : goal.returns-in-Err-clause-from_empty
+returns-in-Err-clause-from_empty g c t u logs tells le le' since =
+    apart-more g.D.Disk.seen g.D.Disk.images g.D.Disk.left_since t u c.args.main c.args.spare c.in-Err.failed.1 c.in-Err.failed.2 logs (logs ++ opened_logs logs) (within-left logs (opened_logs logs))
+    (c.in-Err.ensures.any_moment t u logs tells le le' since)

@@ -2,7 +2,7 @@
 use Rattle.record_codec.specs.declared.records.Rec.TheVariants.{Boot}
 use Rattle.shard_calls.proofs.Devices.{appends-front}
 use Rattle.shard_calls.proofs.FaultCounts.{add-fails}
-use Rattle.shard_calls.proofs.FirstOpenings.{first-full, first-keeps, first-may, first-number, first-room, first-since, first-stands, since-still}
+use Rattle.shard_calls.proofs.FirstOpenings.{apart-still, first-apart, first-full, first-keeps, first-may, first-number, first-room, first-since, first-stands, since-still}
 use Rattle.shard_calls.proofs.Loading.{below-number, numbers-agree}
 use Rattle.shard_calls.proofs.ShardCalls.{place-number}
 use Rattle.shard_calls.proofs.opening.open_first.Goals as goal
@@ -48,6 +48,14 @@ returns-in-Ok-clause-any_moment g c t u before logs tells le le' legal replayed 
     let may = first-may c.args.log.now c.add_opening.new.log c.args.streams before legal replayed end c.saturating_add-number.result c.saturating_add-number.ensures (sym numbers ∙ small) in
     first-since c.args.log.now c.add_opening.new.log c.args.streams before legal replayed end c.saturating_add-number.result c.saturating_add-number.ensures g.D.Disk.left_since t u logs (c.in-Ok.ensures.any_moment t u before logs tells le le' stands may since)
 
+pub returns-in-Ok-clause-since_opened : goal.returns-in-Ok-clause-since_opened
+returns-in-Ok-clause-since_opened g c t u main spare before logs tells le le' legal replayed end stands untorn untorn' since =
+    let is = first-number c.args.log.now c.add_opening.new.log c.args.streams before legal replayed end c.saturating_add-number.result c.saturating_add-number.ensures in
+    let numbers = numbers-agree c.args.streams.boot c.saturating_add-number.result is in
+    let small = place-number c.args.log.now.end (Boot c.saturating_add-number.result) _ c.in-Ok.ensures.ends.0 in
+    let may = first-may c.args.log.now c.add_opening.new.log c.args.streams before legal replayed end c.saturating_add-number.result c.saturating_add-number.ensures (sym numbers ∙ small) in
+    first-apart c.args.log.now c.add_opening.new.log c.args.streams before legal replayed end c.saturating_add-number.result c.saturating_add-number.ensures g.D.Disk.seen g.D.Disk.images g.D.Disk.left_since t u main spare logs (c.in-Ok.ensures.since_opened t u main spare before logs tells le le' stands may untorn untorn' since)
+
 pub returns-in-Err-DiskFault-clause-any_moment : goal.returns-in-Err-DiskFault-clause-any_moment
 returns-in-Err-DiskFault-clause-any_moment g c t u before logs tells le le' legal replayed end stands since =
     let is = first-number c.args.log.now c.add_opening.new.log c.args.streams before legal replayed end c.saturating_add-number.result c.saturating_add-number.ensures in
@@ -56,6 +64,15 @@ returns-in-Err-DiskFault-clause-any_moment g c t u before logs tells le le' lega
     let small = place-number c.args.log.now.end (Boot c.saturating_add-number.result) _ ends.0 in
     let may = first-may c.args.log.now c.add_opening.new.log c.args.streams before legal replayed end c.saturating_add-number.result c.saturating_add-number.ensures (sym numbers ∙ small) in
     first-since c.args.log.now c.add_opening.new.log c.args.streams before legal replayed end c.saturating_add-number.result c.saturating_add-number.ensures g.D.Disk.left_since t u logs (c.in-Err-DiskFault.ensures.any_moment t u before logs tells le le' stands may since)
+
+pub returns-in-Err-DiskFault-clause-since_opened : goal.returns-in-Err-DiskFault-clause-since_opened
+returns-in-Err-DiskFault-clause-since_opened g c t u main spare before logs tells le le' legal replayed end stands untorn untorn' since =
+    let is = first-number c.args.log.now c.add_opening.new.log c.args.streams before legal replayed end c.saturating_add-number.result c.saturating_add-number.ensures in
+    let numbers = numbers-agree c.args.streams.boot c.saturating_add-number.result is in
+    let ends = rw c.in-Err-DiskFault.field-0-is at c.in-Err-DiskFault.ensures.ends in
+    let small = place-number c.args.log.now.end (Boot c.saturating_add-number.result) _ ends.0 in
+    let may = first-may c.args.log.now c.add_opening.new.log c.args.streams before legal replayed end c.saturating_add-number.result c.saturating_add-number.ensures (sym numbers ∙ small) in
+    first-apart c.args.log.now c.add_opening.new.log c.args.streams before legal replayed end c.saturating_add-number.result c.saturating_add-number.ensures g.D.Disk.seen g.D.Disk.images g.D.Disk.left_since t u main spare logs (c.in-Err-DiskFault.ensures.since_opened t u main spare before logs tells le le' stands may untorn untorn' since)
 
 pub returns-in-Err-Full-clause-fault : goal.returns-in-Err-Full-clause-fault
 returns-in-Err-Full-clause-fault g c before legal replayed end =
@@ -70,6 +87,11 @@ returns-in-Err-Full-clause-any_moment g c t u before logs tells le le' legal rep
     let ends = rw c.in-Err-Full.field-0-is at c.in-Err-Full.ensures.ends in
     since-still g.D.Disk.left_since t u c.args.log.now c.add_opening.new.log (opened_log before) logs ends.1 since
 
+pub returns-in-Err-Full-clause-since_opened : goal.returns-in-Err-Full-clause-since_opened
+returns-in-Err-Full-clause-since_opened g c t u main spare before logs tells le le' legal replayed end stands untorn untorn' since =
+    let ends = rw c.in-Err-Full.field-0-is at c.in-Err-Full.ensures.ends in
+    apart-still g.D.Disk.seen g.D.Disk.images g.D.Disk.left_since t u main spare c.args.log.now c.add_opening.new.log (opened_log before) logs ends.1 since
+
 pub returns-clause-any_moment : goal.returns-clause-any_moment
 returns-clause-any_moment g c t u before logs tells le le' legal replayed end stands since =
     let is = first-number c.args.log.now c.add_opening.new.log c.args.streams before legal replayed end c.saturating_add-number.result c.saturating_add-number.ensures in
@@ -80,6 +102,18 @@ returns-clause-any_moment g c t u before logs tells le le' legal replayed end st
       | inr opened_at ↦ (let small = place-number c.args.log.now.end (Boot c.saturating_add-number.result) _ opened_at.0 in
           let may = first-may c.args.log.now c.add_opening.new.log c.args.streams before legal replayed end c.saturating_add-number.result c.saturating_add-number.ensures (sym numbers ∙ small) in
           first-since c.args.log.now c.add_opening.new.log c.args.streams before legal replayed end c.saturating_add-number.result c.saturating_add-number.ensures g.D.Disk.left_since t u logs (c.in-Err-NoMemory.ensures.any_moment t u before logs tells le le' stands may since))
+    ]
+
+pub returns-clause-since_opened : goal.returns-clause-since_opened
+returns-clause-since_opened g c t u main spare before logs tells le le' legal replayed end stands untorn untorn' since =
+    let is = first-number c.args.log.now c.add_opening.new.log c.args.streams before legal replayed end c.saturating_add-number.result c.saturating_add-number.ensures in
+    let numbers = numbers-agree c.args.streams.boot c.saturating_add-number.result is in
+    let ends = rw c.in-Err-NoMemory.field-0-is at c.in-Err-NoMemory.ensures.ends in
+    elim ends [
+      | inl same ↦ apart-still g.D.Disk.seen g.D.Disk.images g.D.Disk.left_since t u main spare c.args.log.now c.add_opening.new.log (opened_log before) logs same since
+      | inr opened_at ↦ (let small = place-number c.args.log.now.end (Boot c.saturating_add-number.result) _ opened_at.0 in
+          let may = first-may c.args.log.now c.add_opening.new.log c.args.streams before legal replayed end c.saturating_add-number.result c.saturating_add-number.ensures (sym numbers ∙ small) in
+          first-apart c.args.log.now c.add_opening.new.log c.args.streams before legal replayed end c.saturating_add-number.result c.saturating_add-number.ensures g.D.Disk.seen g.D.Disk.images g.D.Disk.left_since t u main spare logs (c.in-Err-NoMemory.ensures.since_opened t u main spare before logs tells le le' stands may untorn untorn' since))
     ]
 
 pub returns-in-Ok-clause-cause : goal.returns-in-Ok-clause-cause

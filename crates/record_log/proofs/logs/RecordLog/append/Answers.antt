@@ -1,16 +1,15 @@
-use Rattle.std.proofs.Common.{◌≡◌, ◌≤◌, ◌∙◌, ℕ, List, [], ◌∷◌, ◌++◌, sym, ap, subst}
-use Rattle.std.specs.Prelude.{Option, Some, Result, Ok, Err, OnOk, OnErr, IsErrOf, None}
+use Rattle.std.proofs.Common.{◌≡◌, ◌≤◌, ◌∙◌, true, false, [], ◌∷◌, ◌++◌, ap, subst}
+use Rattle.std.specs.Prelude.{Option, Some, Result, Ok, Err, OnOk, OnErr, None}
 use Rattle.gate_journal.specs.Journals.{JournalState, Stands, with_body}
 use Rattle.gate_journal.specs.declared.fault.AppendFault.{AppendFault}
 use Rattle.gate_journal.specs.declared.fault.AppendFault.TheVariants.{NoMemory}
-use Rattle.record_codec.specs.declared.records.Rec.{Rec}
 use Rattle.record_codec.specs.Reading.{reading}
 use Rattle.shard_machine.specs.Legal.{MayFollow}
 use Rattle.record_log.specs.LogStates.{LogState, in_use}
-use Rattle.record_log.specs.Standing.{EachStandsFor, SinceStandFor}
+use Rattle.record_log.specs.Standing.{EachStandsFor, SinceStandFor, SinceStandOrTorn, IsTornFormat, IsUntorn}
 use Rattle.record_log.specs.Serving.{Serves}
 use Rattle.record_log.proofs.Growing.{log_of-push}
-use Rattle.record_log.proofs.Running.{moments, stand_now, stands_after, log_of_journal, stay_formatted}
+use Rattle.record_log.proofs.Running.{moments, moments_but, stand_now, stands_after, log_of_journal, stay_formatted}
 use Rattle.record_log.proofs.logs.RecordLog.append.Goals as goal
 
 pub returns-in-Ok-clause-any_moment : goal.returns-in-Ok-clause-any_moment
@@ -128,3 +127,39 @@ invariant_of-self-in-DiskFault-1 g c =
     (λ tells.
     let served = subst (λ (o : Option JournalState). Serves disk.tells disk.images i.main i.spare i.on_spare o) is c.self.invariant tells in
     stay_formatted disk.moment disk.left_since disk.seen disk.images (λ d. g.met.D.Disk.seen_is_image d tells) (λ d s x. g.met.D.Disk.counts_now d s x tells) (λ d x. g.met.D.Disk.only_now d x tells) j.generation served.bodies i.on_spare i.main i.spare a.new.main a.new.spare c.args.body.now served.other (a.ensures.any_moment served.bodies tells served.stands) a.ensures.one)
+
+pub returns-in-Ok-clause-since_opened : goal.returns-in-Ok-clause-since_opened
+returns-in-Ok-clause-since_opened g c = λ t u main spare log it logs tells.
+    let disk = g.D.Disk in
+    let i = c.self.inside in
+    let a = c.append_in_use-appended in
+    let j = c.unwrap-journal.result in
+    let is : i.journal ≡ Some j = cc in
+    let served = subst (λ (o : Option JournalState). Serves disk.tells disk.images i.main i.spare i.on_spare o) is c.self.invariant tells in
+    subst (λ (l : LogState g.row.D.Denot). t ≤ disk.moment l.main → u ≤ disk.moment l.spare → EachStandsFor disk.images l.main l.spare (log ∷ []) → reading c.args.body.now ≡ Ok it → MayFollow log it → IsUntorn disk.seen disk.images true main l.main → IsUntorn disk.seen disk.images false spare l.spare
+    → SinceStandOrTorn disk.seen disk.images disk.left_since t u main spare logs l.main l.spare → SinceStandOrTorn disk.seen disk.images disk.left_since t u main spare ((log ++ it ∷ []) ∷ logs) a.new.main a.new.spare) c.self.view_is
+    (λ le le' stand spells may untorn untorn' since. moments_but disk.moment disk.left_since disk.seen disk.images (λ d. g.met.D.Disk.seen_is_image d tells) (λ d s x. g.met.D.Disk.counts_now d s x tells) (λ d x. g.met.D.Disk.only_now d x tells) j.generation served.bodies c.args.body.now log it spells may (IsTornFormat disk.seen disk.images true main) (IsTornFormat disk.seen disk.images false spare) i.on_spare i.main i.spare a.new.main a.new.spare served.stands.each served.other (a.ensures.any_moment served.bodies tells served.stands) a.ensures.one stand untorn untorn' t u logs le le' since)
+
+pub returns-in-Err-NoMemory-clause-since_opened : goal.returns-in-Err-NoMemory-clause-since_opened
+returns-in-Err-NoMemory-clause-since_opened g c = λ t u main spare log it logs tells.
+    let disk = g.D.Disk in
+    let i = c.self.inside in
+    let a = c.append_in_use-appended in
+    let j = c.unwrap-journal.result in
+    let is : i.journal ≡ Some j = cc in
+    let served = subst (λ (o : Option JournalState). Serves disk.tells disk.images i.main i.spare i.on_spare o) is c.self.invariant tells in
+    subst (λ (l : LogState g.row.D.Denot). t ≤ disk.moment l.main → u ≤ disk.moment l.spare → EachStandsFor disk.images l.main l.spare (log ∷ []) → reading c.args.body.now ≡ Ok it → MayFollow log it → IsUntorn disk.seen disk.images true main l.main → IsUntorn disk.seen disk.images false spare l.spare
+    → SinceStandOrTorn disk.seen disk.images disk.left_since t u main spare logs l.main l.spare → SinceStandOrTorn disk.seen disk.images disk.left_since t u main spare ((log ++ it ∷ []) ∷ logs) a.new.main a.new.spare) c.self.view_is
+    (λ le le' stand spells may untorn untorn' since. moments_but disk.moment disk.left_since disk.seen disk.images (λ d. g.met.D.Disk.seen_is_image d tells) (λ d s x. g.met.D.Disk.counts_now d s x tells) (λ d x. g.met.D.Disk.only_now d x tells) j.generation served.bodies c.args.body.now log it spells may (IsTornFormat disk.seen disk.images true main) (IsTornFormat disk.seen disk.images false spare) i.on_spare i.main i.spare a.new.main a.new.spare served.stands.each served.other (a.ensures.any_moment served.bodies tells served.stands) a.ensures.one stand untorn untorn' t u logs le le' since)
+
+pub returns-in-Err-DiskFault-clause-since_opened : goal.returns-in-Err-DiskFault-clause-since_opened
+returns-in-Err-DiskFault-clause-since_opened g c = λ t u main spare log it logs tells.
+    let disk = g.D.Disk in
+    let i = c.self.inside in
+    let a = c.append_in_use-appended in
+    let j = c.unwrap-journal.result in
+    let is : i.journal ≡ Some j = cc in
+    let served = subst (λ (o : Option JournalState). Serves disk.tells disk.images i.main i.spare i.on_spare o) is c.self.invariant tells in
+    subst (λ (l : LogState g.row.D.Denot). t ≤ disk.moment l.main → u ≤ disk.moment l.spare → EachStandsFor disk.images l.main l.spare (log ∷ []) → reading c.args.body.now ≡ Ok it → MayFollow log it → IsUntorn disk.seen disk.images true main l.main → IsUntorn disk.seen disk.images false spare l.spare
+    → SinceStandOrTorn disk.seen disk.images disk.left_since t u main spare logs l.main l.spare → SinceStandOrTorn disk.seen disk.images disk.left_since t u main spare ((log ++ it ∷ []) ∷ logs) a.new.main a.new.spare) c.self.view_is
+    (λ le le' stand spells may untorn untorn' since. moments_but disk.moment disk.left_since disk.seen disk.images (λ d. g.met.D.Disk.seen_is_image d tells) (λ d s x. g.met.D.Disk.counts_now d s x tells) (λ d x. g.met.D.Disk.only_now d x tells) j.generation served.bodies c.args.body.now log it spells may (IsTornFormat disk.seen disk.images true main) (IsTornFormat disk.seen disk.images false spare) i.on_spare i.main i.spare a.new.main a.new.spare served.stands.each served.other (a.ensures.any_moment served.bodies tells served.stands) a.ensures.one stand untorn untorn' t u logs le le' since)

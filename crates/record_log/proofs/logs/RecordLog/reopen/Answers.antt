@@ -1,7 +1,8 @@
 use Rattle.std.proofs.Common.{◌≤◌, subst}
 use Rattle.record_log.specs.LogStates.{LogState}
 use Rattle.record_log.specs.Standing.{EachStandsFor, SinceStandFor}
-use Rattle.record_log.specs.Opening.{FailsBy}
+use Rattle.record_log.specs.Opening.{FailsBy, IsOfCalls}
+use Rattle.record_log.proofs.Readable.{stood_of_calls}
 use Rattle.record_log.proofs.Reopening.{reopened_moments, reopened_now, still_formatted, serves_formatted}
 use Rattle.record_log.proofs.logs.RecordLog.reopen.Goals as goal
 
@@ -39,6 +40,13 @@ pub returns-in-Err-clause-fault : goal.returns-in-Err-clause-fault
 returns-in-Err-clause-fault g c = λ tells.
     let disk = g.D.Disk in
     subst (λ (l : LogState g.row.D.Denot). FailsBy (disk.seen l.main) (disk.seen l.spare) c.in-Err.fault) c.self.view_is (c.in-Err.ensures.fault tells)
+
+pub returns-in-Err-clause-stood : goal.returns-in-Err-clause-stood
+returns-in-Err-clause-stood g c = λ logs tells.
+    let disk = g.D.Disk in
+    let i = c.self.inside in
+    subst (λ (l : LogState g.row.D.Denot). EachStandsFor disk.images l.main l.spare logs → IsOfCalls c.in-Err.fault) c.self.view_is
+    (λ each. stood_of_calls (disk.seen i.main) (disk.seen i.spare) logs c.in-Err.fault (each (disk.seen i.main) (disk.seen i.spare) (g.met.D.Disk.seen_is_image i.main tells) (g.met.D.Disk.seen_is_image i.spare tells)) (c.in-Err.ensures.fault tells))
 
 pub invariant_of-self-in-Err : goal.invariant_of-self-in-Err
 invariant_of-self-in-Err g c = λ tells.

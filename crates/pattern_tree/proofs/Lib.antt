@@ -1,0 +1,11 @@
+pub mod Added
+pub mod Changed
+pub mod Fronts
+pub mod Gathered
+pub mod Listings
+pub mod Matched
+pub mod Members
+pub mod Sorted
+pub mod Standing
+pub mod Steps
+pub mod Walked

@@ -1,0 +1,9 @@
+pub mod Keys
+pub mod Lookups
+pub mod Changing
+pub mod Saying
+pub mod Weights
+pub mod Loops
+pub mod LinkLists
+pub mod Covering
+pub mod Standing
